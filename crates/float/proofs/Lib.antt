@@ -1,0 +1,15 @@
+pub mod Within
+pub mod Squares
+pub mod Whole
+pub mod Rounding
+pub mod Halfway
+pub mod SqrtLaws
+pub mod CbrtLaws
+pub mod Decode
+pub mod NearestLaw
+pub mod Cubes
+pub mod Bounds
+pub mod Own
+pub mod Units
+pub mod Reduction
+pub mod Picked

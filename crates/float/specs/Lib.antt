@@ -1,0 +1,10 @@
+pub mod Num
+pub mod Number
+pub mod Size
+pub mod Turn
+pub mod Root
+pub mod Nearest
+pub mod Sine
+pub mod Arctangent
+pub mod RootValues
+pub mod SineValues
