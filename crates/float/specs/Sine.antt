@@ -79,6 +79,6 @@ unfoldable pub cos : Float → Float
 unfolding cos-at reduce
 cos x = cond (is-finite x) (cos-at (reduce (rem-tau x))) nan
 
-unfoldable pub sin-cos : Float → SinCos
-unfolding sin cos
+-- both of one angle
+abbrev pub sin-cos : Float → SinCos
 sin-cos x = record { sin = sin x; cos = cos x }
