@@ -148,3 +148,16 @@ step n a l B x =
       kept = λ y. subst (λ (z : ℕ). Root z (a * B + q)) join (kept n a B (l / B) (l % B) (n - a * a) q u r wide some d1 d0 refl e f y);
       lowered = λ y. subst (λ (z : ℕ). Root z (a * B + q - 1)) join (lowered n a B (l / B) (l % B) (n - a * a) q u r wide some d1 d0 refl e f y);
     }
+
+-- ---- a root's bounds, from its number's, and what `refine` asks
+pub least : (n a b : ℕ) → Root n a → b * b ≤ n → b ≤ a
+least n a b r h = let k : b < a + 1 = less-of-squares b (a + 1) (let x = r .high in omega arith) in omega arith
+
+pub most : (n a b : ℕ) → Root n a → n < b * b → a < b
+most n a b r h = less-of-squares a b (let x = r .low in omega arith)
+
+pub ready : (n a l b lo hi : ℕ) → Root n a → lo * lo ≤ n → n < hi * hi → b ≤ 2 * lo → hi ≤ 2 ^ 27 → b ≤ 2 ^ 27 → 0 < b → l < b * b → Refinable n a l b
+ready n a l b lo hi r x y wide top narrow some digits =
+    let g = least n a lo r x in
+    let h = most n a hi r y in
+    record { root = r; small = omega arith; some = some; wide = omega arith; narrow = narrow; digits = digits }

@@ -40,17 +40,57 @@ fn refine(n: u64, a: u64, l: u64, b: u64) -> u64
     if q * q <= u * b + l % b { r } else { r - 1 }
 }
 
-// The whole part of the square root of m * 2^54: 4 digits, and then 3, 7, 13 and 27 more.
-fn root54(m: u64) -> u64
+// The whole part of the square root of m: 4 digits, and then 3, 7 and 13 more.
+fn root27_by_digits(m: u64) -> u64
     requires { ⌜ (2 ^ 52 ≤ m) × (m < 2 ^ 54) ⌝ }
-    ensures { λ r. ⌜ Root (m * 2 ^ 54) r ⌝ }
+    ensures { λ r. ⌜ Root m r ⌝ }
 {
     let k = m / 0x4000_0000_0000;
     let a = root4(k);
     let b = refine(k, a, m / 0x100_0000_0000 % 64, 8);
     let c = refine(m / 0x100_0000_0000, b, m / 0x400_0000 % 0x4000, 128);
-    let d = refine(m / 0x400_0000, c, m % 0x400_0000, 0x2000);
-    refine(m, d, 0, 0x800_0000)
+    refine(m / 0x400_0000, c, m % 0x400_0000, 0x2000)
+}
+
+// A guess at the same, in floats: a parabola within 0.6% and two steps of Heron's method. The sum
+// with 2^52 - 0.5 has the whole part as its last digits. Nothing rests on how near the guess is.
+fn square_guess(m: u64) -> u64
+    requires { ⌜ m < 2 ^ 54 ⌝ }
+    ensures { λ r. ⌜ r < 2 ^ 52 ⌝ }
+{
+    let half = (m / 2) as f64;
+    let z = half + half;
+    let s = 34799612.0 + z * (0.000000007838155 - z * 0.00000000000000000000000013082726);
+    let t = 0.5 * (s + z / s);
+    let r = 0.5 * (t + z / t) + 4503599627370495.5;
+    if r >= 1.0 {
+        return f64::to_bits(r) % 0x10_0000_0000_0000;
+    }
+    0
+}
+
+// The whole part of the square root of m: the guess where it is right, else digit by digit.
+fn root27(m: u64) -> u64
+    requires { ⌜ (2 ^ 52 ≤ m) × (m < 2 ^ 54) ⌝ }
+    ensures { λ r. ⌜ Root m r ⌝ }
+{
+    let r = square_guess(m);
+    if r < 0x800_0000 {
+        if r * r <= m {
+            if m < (r + 1) * (r + 1) {
+                return r;
+            }
+        }
+    }
+    root27_by_digits(m)
+}
+
+// The whole part of the square root of m * 2^54: 27 digits more than that of m.
+fn root54(m: u64) -> u64
+    requires { ⌜ (2 ^ 52 ≤ m) × (m < 2 ^ 54) ⌝ }
+    ensures { λ r. ⌜ Root (m * 2 ^ 54) r ⌝ }
+{
+    refine(m, root27(m), 0, 0x800_0000)
 }
 
 // A number of 53 digits, and an exponent.
