@@ -33,10 +33,16 @@ pub fn outer(a: Vector3, b: Vector3) -> Matrix3
 fn row_product(a: [f64; 3], b: Matrix3) -> [f64; 3]
     ensures { λ r. ⌜ r ≡ row-product a b ⌝ }
 {
+    let x = a[0];
+    let y = a[1];
+    let z = a[2];
+    let b0 = b[0];
+    let b1 = b[1];
+    let b2 = b[2];
     [
-        a[0] * b[0][0] + a[1] * b[1][0] + a[2] * b[2][0],
-        a[0] * b[0][1] + a[1] * b[1][1] + a[2] * b[2][1],
-        a[0] * b[0][2] + a[1] * b[1][2] + a[2] * b[2][2],
+        x * b0[0] + y * b1[0] + z * b2[0],
+        x * b0[1] + y * b1[1] + z * b2[1],
+        x * b0[2] + y * b1[2] + z * b2[2],
     ]
 }
 
