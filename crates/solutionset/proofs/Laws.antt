@@ -1,7 +1,7 @@
 -- Laws on slots, over any type of answer and any set of them.
 use Prim.Native.Nat.{ℕ, zero, suc, _-_, _<_}
 use mathlib.Core.Path.{_≡_, refl, sym, ap, _∙_}
-use mathlib.Core.List.{List, [], _∷_, _++_}
+use mathlib.Core.List.{List, [], _∷_}
 use native.Mathlib.Omega.{arith}
 use lib.ListN.{length, getD, take, replicate, List·getD-append}
 use Rattle.solutionset.specs.Slots.{padded}
@@ -23,7 +23,7 @@ module _ {A : Type 0} where
   two-slots d (a ∷ []) h = absurd (omega arith)
   two-slots d (a ∷ b ∷ e ∷ l) h = absurd (omega arith)
 
-  four-slots : (d : A) (l : List A) → length l ≡ 4 → getD l 0 d ∷ getD l 1 d ∷ getD l 2 d ∷ getD l 3 d ∷ [] ≡ l
+  pub four-slots : (d : A) (l : List A) → length l ≡ 4 → getD l 0 d ∷ getD l 1 d ∷ getD l 2 d ∷ getD l 3 d ∷ [] ≡ l
   four-slots d (a ∷ b ∷ e ∷ f ∷ []) h = refl
   four-slots d [] h = absurd (omega arith)
   four-slots d (a ∷ []) h = absurd (omega arith)
