@@ -1,0 +1,3 @@
+pub mod Vector
+pub mod Matrix
+pub mod LinearValues
