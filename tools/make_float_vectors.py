@@ -310,6 +310,8 @@ def sqrt_arguments(g):
         near = nearest(m * m << 2 * g.below(400), 1 << 2 * g.below(400))
         xs += beside(word_of(near), 1)
     xs += [word_of(float(n * n)) for n in (g.short(26) for _ in range(60))]
+    for k in range(-500, 501, 200):  # beside a power of 4
+        xs += beside(word_of(math.ldexp(1.0, 2 * k)), 6)
     xs += [g.word() & ~SIGN for _ in range(150)]
     return xs
 
@@ -321,6 +323,8 @@ def cbrt_arguments(g):
         near = nearest(m ** 3 << 3 * g.below(200), 1 << 3 * g.below(300))
         xs += [signed(g, b) for b in beside(word_of(near), 1)]
     xs += [signed(g, word_of(float(n ** 3))) for n in (g.short(17) for _ in range(60))]
+    for k in range(-300, 341, 128):  # beside a power of 8, where the root's exponent changes
+        xs += [signed(g, b) for b in beside(word_of(math.ldexp(1.0, 3 * k)), 6)]
     xs += [g.word() for _ in range(150)]
     return xs
 
