@@ -3,6 +3,8 @@
 
     tools/make_float_vectors.py            writes crates/float_vectors/stdin and stdout
     tools/make_float_vectors.py --check    says whether the two files are what it would write
+    tools/make_float_vectors.py --oracle PROGRAM
+                                           says whether the Rust oracle gives the same results
 
 A case is five little-endian 64-bit words: the id of a function, x, y, and two results (0 where there
 is none). Nothing here comes from the port, nor from the Rust oracle. Where each result comes from:
@@ -24,6 +26,7 @@ is the IEEE 754 f64.
 import math
 import os
 import struct
+import subprocess
 import sys
 from fractions import Fraction
 
@@ -457,22 +460,46 @@ def table(records):
     return "".join(lines).encode()
 
 
-def main():
+def plain(word):
+    """The word, or the one that stands here for every NaN: which bits a NaN has is open."""
+    return word if word & ~SIGN <= INFINITE else word_of(NAN)
+
+
+def check_with(oracle, records):
+    """Stops unless the Rust oracle, a second source, gives the same result words."""
+    for i, name in enumerate(NAMES):
+        mine = [r for r in records if r[0] == i]
+        arguments = {"infinity": 0, "atan2": 2, "add": 2, "sub": 2, "mul": 2, "div": 2}.get(name, 1)
+        results = 2 if name == "sin_cos" else 1
+        lines = "".join(" ".join("%016x" % w for w in r[1:1 + arguments]) + "\n" for r in mine)
+        called = "wrap_to_pi_inverse" if name == "inverse_wrap_to_pi" else name
+        told = subprocess.run([oracle, "call", called], input=lines, stdout=subprocess.PIPE, text=True, check=True)
+        theirs = [[plain(int(w, 16)) for w in line.split()] for line in told.stdout.splitlines()]
+        if theirs != [list(r[3:3 + results]) for r in mine]:
+            sys.exit("%s: the oracle has another result" % name)
+
+
+def files_of(records):
+    return {"stdin": b"".join(struct.pack("<5Q", *r) for r in records), "stdout": table(records)}
+
+
+def main(words):
     # an IEEE 754 f64 that rounds once: with more digits in between the sum would be 2^53
     assert sys.float_info.mant_dig == 53 and 9007199254740992.0 + number(word_of(1.0) + 1) == 9007199254740994.0
     records = cases()
-    files = {"stdin": b"".join(struct.pack("<5Q", *r) for r in records), "stdout": table(records)}
     folder = os.path.join(os.path.dirname(os.path.abspath(__file__)), "..", "crates", "float_vectors")
-    for name, data in files.items():
+    if words[:1] == ["--oracle"]:
+        check_with(words[1], records)
+    for name, data in files_of(records).items():
         path = os.path.join(folder, name)
-        if sys.argv[1:] == ["--check"]:
+        if words:
             with open(path, "rb") as f:
                 if f.read() != data:
                     sys.exit("crates/float_vectors/%s is not what this program makes" % name)
         else:
             with open(path, "wb") as f:
                 f.write(data)
-    print("%d cases, %d bytes" % (len(records), len(files["stdin"])))
+    print("%d cases, %d bytes" % (len(records), 40 * len(records)))
 
 
-main()
+main(sys.argv[1:])
