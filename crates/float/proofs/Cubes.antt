@@ -210,27 +210,6 @@ module _
         less : (m xh xl yh sh : ℕ) → m / 2 ≤ xh + 4 → (xh + 8 - m / 2) * 2 ^ 54 + xl + yh - m % 2 * 2 ^ 53 + 4 ≤ 2 ^ 57 + 3 * sh → xh * 2 ^ 54 + (xl + yh) + 4 ≤ m * 2 ^ 53 + 3 * sh
         less m xh xl yh sh a q = omega arith
 
--- ---- the steps of a search for a root
--- a cube that is above something is not that of 0
-pub above-some : (a r : ℕ) → a < r * r * r → 1 ≤ r
-above-some a zero h = absurd (omega arith)
-above-some a (suc r) h = omega arith
-
--- and it is that of one more than the number below
-pub above-next : (a r : ℕ) → a < r * r * r → a < (r - 1 + 1) * (r - 1 + 1) * (r - 1 + 1)
-above-next a r h = let k = above-some a r h in let e : r ≡ r - 1 + 1 = back r k in subst (λ (x : ℕ). a < x * x * x) e h
-  where
-    back : (r : ℕ) → 1 ≤ r → r ≡ r - 1 + 1
-    back r k = omega arith
-
 -- a root of 54 digits at most
 pub short : (m r : ℕ) → m < 2 ^ 55 → r * r * r ≤ m * 2 ^ 107 → r < 2 ^ 54
 short m r h k = less-of-cubes r (2 ^ 54) (lt-of-le-of-lt k (mul-lt-mul-of-pos-right {m = m} {n = 2 ^ 55} {k = 2 ^ 107} h (lit< {m = 0} {n = 2 ^ 107} tt)))
-
-pub negated : (x : Bool) → not x ≡ true → x ≡ false
-negated true e = sym e
-negated false e = refl
-
-pub affirmed : (x : Bool) → not x ≡ false → x ≡ true
-affirmed true e = refl
-affirmed false e = sym e

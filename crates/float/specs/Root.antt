@@ -6,6 +6,7 @@ use mathlib.Core.Path.{_≡_}
 use Prim.Native.Nat.{ℕ, zero, suc, _+_, _-_, _*_, _/_, _%_, _^_, _≤_, _<_}
 use mathlib.Core.Bool.{Bool, true, false, cond}
 use lib.Dec.{leb, eqb}
+use Rattle.float.specs.declared.root.Span.{Span}
 use lib.Ieee.{Float, nan, inf, fin, Format, binary64, low, up, down, size, round}
 
 -- q is the whole part of √n
@@ -32,6 +33,13 @@ pub record Refinable (n a l b : ℕ) : Type 0 where
   pub wide : b ≤ 2 * a
   pub narrow : b ≤ 2 ^ 27
   pub digits : l < b * b
+
+-- the whole cube root of n is among the numbers of a span, of which there are some, none with more than 54 digits
+pub record CubeSpan (n : ℕ) (s : Span) : Type 0 where
+  pub low : s .from * s .from * s .from ≤ n
+  pub high : n < (s .from + s .width) * (s .from + s .width) * (s .from + s .width)
+  pub some : 0 < s .width
+  pub few : s .from + s .width ≤ 2 ^ 54
 
 -- the cube root of n is at least e - 1 and below e + 1
 pub record Beside (e n : ℕ) : Type 0 where
