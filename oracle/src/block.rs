@@ -14,11 +14,15 @@ const CHECK: usize = 63;
 /// The bits that stand for every NaN in what is printed or recorded.
 pub const NAN_BITS: u64 = 0x7ff8_0000_0000_0000;
 
+/// The test is of the bits as a whole number: an optimising compiler may take `x.is_nan()` beside
+/// `x.to_bits()` for one of the patterns that a NaN can have.
 pub fn canonical_bits(x: f64) -> u64 {
-    if x.is_nan() {
+    const INFINITY_BITS: u64 = 0x7ff0_0000_0000_0000;
+    let bits = std::hint::black_box(x.to_bits());
+    if bits & !(1 << 63) > INFINITY_BITS {
         NAN_BITS
     } else {
-        x.to_bits()
+        bits
     }
 }
 
