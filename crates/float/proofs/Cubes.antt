@@ -1,11 +1,13 @@
 -- Products of several words, and a cube compared with a number of 162 digits. Nothing here is about floats. Assumes nothing.
 use mathlib.Core.Path.{_≡_, refl, sym, ap, _∙_, subst}
 use Prim.Native.Nat.{ℕ, zero, suc, _+_, _-_, _*_, _/_, _%_, _^_, _≤_, _<_}
-use native.Mathlib.Nat.{lt-of-le-of-lt, mul-lt-mul-of-pos-right, zero-lt-suc, add-zero, le-of-eq, not-le-of-lt, mul-assoc, mul-right-comm, mul-mul-mul-comm, add-mul, mul-add, mul-le-mul, div-add-mod'}
+use native.Mathlib.Nat.{lt-of-le-of-lt, lt-of-lt-of-le, le-trans, add-assoc, mul-lt-mul-of-pos-right, zero-lt-suc, add-zero, le-of-eq, not-le-of-lt, mul-assoc, mul-right-comm, mul-mul-mul-comm, add-mul, mul-add, mul-le-mul, div-add-mod'}
 use native.Mathlib.Omega.{arith}
 use mathlib.Core.Bool.{Bool, true, false, not}
 use Rattle.float.proofs.Whole.{less-of-cubes}
-use lib.Dec.{lit<, T, ltb, ltb→lt, lt→ltb, nltb→le}
+use lib.Dec.{lit<, T, ltb, leb, ltb→lt, lt→ltb, nltb→le, leb→le, nleb→lt}
+use Rattle.float.specs.Root.{HalfRoot3, Beside}
+use Rattle.float.proofs.Squares.{square-suc}
 
 -- ---- a * b by halves of 27 digits
 pub record Halves (a b : ℕ) : Type 0 where
@@ -112,27 +114,102 @@ module _ (m H l C : ℕ) (e : C ≡ H * 2 ^ 54 + l) (d : l < 2 ^ 54) where
           grows : (a l : ℕ) → a < a + suc l
           grows a l = omega arith
 
--- ---- the steps of a search for a root
--- a cube that is above something is not that of 0
-pub above-some : (a r : ℕ) → a < r * r * r → 1 ≤ r
-above-some a zero h = absurd (omega arith)
-above-some a (suc r) h = omega arith
-
--- and it is that of one more than the number below
-pub above-next : (a r : ℕ) → a < r * r * r → a < (r - 1 + 1) * (r - 1 + 1) * (r - 1 + 1)
-above-next a r h = let k = above-some a r h in let e : r ≡ r - 1 + 1 = back r k in subst (λ (x : ℕ). a < x * x * x) e h
+-- ---- half the root, rounded: between the odd numbers beside 2 * p it is p
+pub half-root : (n p : ℕ) → 0 < p → Beside (2 * p) n → HalfRoot3 n p
+half-root n p h b = go (leb (2 * p * (2 * p) * (2 * p)) n) refl
   where
-    back : (r : ℕ) → 1 ≤ r → r ≡ r - 1 + 1
-    back r k = omega arith
+    at-even : (p : ℕ) → p ≡ (2 * p + 1) / 2
+    at-even p = omega arith
+
+    at-odd : (p : ℕ) → 0 < p → p ≡ (2 * p - 1 + 1) / 2
+    at-odd p h = omega arith
+
+    back : (p : ℕ) → 0 < p → 2 * p ≡ 2 * p - 1 + 1
+    back p h = omega arith
+
+    go : (t : Bool) → leb (2 * p * (2 * p) * (2 * p)) n ≡ t → HalfRoot3 n p
+    go true e = record { r = 2 * p; root = record { low = leb→le (2 * p * (2 * p) * (2 * p)) n (subst T (sym e) tt); high = b .high }; is = at-even p }
+    go false e =
+        record {
+          r = 2 * p - 1;
+          root = record { low = b .low; high = subst (λ (x : ℕ). n < x * x * x) (back p h) (nleb→lt (2 * p * (2 * p) * (2 * p)) n (subst (λ (x : Bool). T (not x)) (sym e) tt)) };
+          is = at-odd p h;
+        }
+
+-- ---- a cube that is off by less than 3 squares
+-- (e + 1) ^ 3 and (e - 1) ^ 3, for e = k + 1
+above-one : (e : ℕ) → e * e * e + 3 * (e * e) ≤ (e + 1) * (e + 1) * (e + 1)
+above-one e =
+    let a : (e + 1) * (e + 1) ≡ e * e + 2 * e + 1 = square-suc e ∙ sym (add-assoc (e * e) (2 * e) 1) in
+    let b : (e + 1) * (e + 1) * (e + 1) ≡ (e * e + 2 * e + 1) * (e + 1) = ap (λ (x : ℕ). x * (e + 1)) a in
+    let c : (e * e + 2 * e + 1) * (e + 1) ≡ (e * e + 2 * e + 1) * e + (e * e + 2 * e + 1) * 1 = mul-add (e * e + 2 * e + 1) e 1 in
+    let d : (e * e + 2 * e + 1) * e ≡ (e * e + 2 * e) * e + 1 * e = add-mul (e * e + 2 * e) 1 e in
+    let f : (e * e + 2 * e) * e ≡ e * e * e + 2 * e * e = add-mul (e * e) (2 * e) e in
+    let g : 2 * e * e ≡ 2 * (e * e) = mul-assoc 2 e e in
+    omega arith
+
+below-one : (k : ℕ) → k * k * k + 3 * ((k + 1) * (k + 1)) ≤ (k + 1) * (k + 1) * (k + 1) + 3 * (k + 1)
+below-one k =
+    let h = above-one k in
+    let a : (k + 1) * (k + 1) ≡ k * k + 2 * k + 1 = square-suc k ∙ sym (add-assoc (k * k) (2 * k) 1) in
+    let b : (k + 1) * (k + 1) * (k + 1) ≡ (k * k + 2 * k + 1) * (k + 1) = ap (λ (x : ℕ). x * (k + 1)) a in
+    let c : (k * k + 2 * k + 1) * (k + 1) ≡ (k * k + 2 * k + 1) * k + (k * k + 2 * k + 1) * 1 = mul-add (k * k + 2 * k + 1) k 1 in
+    let d : (k * k + 2 * k + 1) * k ≡ (k * k + 2 * k) * k + 1 * k = add-mul (k * k + 2 * k) 1 k in
+    let f : (k * k + 2 * k) * k ≡ k * k * k + 2 * k * k = add-mul (k * k) (2 * k) k in
+    let g : 2 * k * k ≡ 2 * (k * k) = mul-assoc 2 k k in
+    omega arith
+
+-- C is the cube and S the square of e, U and H the two sides above their last 54 digits
+under-next : (U H sh C S yl sl : ℕ) → C ≡ H * 2 ^ 54 + yl → S ≡ sh * 2 ^ 54 + sl → U < H + 3 * sh → U * 2 ^ 54 < C + 3 * S
+under-next U H sh C S yl sl a b h = omega arith
+
+over-last : (U H sh C S yl sl e : ℕ) → C ≡ H * 2 ^ 54 + yl → S ≡ sh * 2 ^ 54 + sl → yl < 2 ^ 54 → e ≤ 2 ^ 54 → H + 4 ≤ U + 3 * sh → C + 3 * e ≤ U * 2 ^ 54 + 3 * S
+over-last U H sh C S yl sl e a b c d h = omega arith
+
+module _
+    (e m sh sl xh xl yh yl : ℕ)
+    (some : 0 < e)
+    (few : e ≤ 2 ^ 54)
+    (s : sh * 2 ^ 54 + sl ≡ e * e)
+    (x : xh * 2 ^ 54 + xl ≡ sh * e)
+    (y : yh * 2 ^ 54 + yl ≡ sl * e)
+    (d : yl < 2 ^ 54)
+  where
+    abbrev H : ℕ
+    H = xh * 2 ^ 54 + (xl + yh)
+
+    scaled : m * 2 ^ 107 ≡ m * 2 ^ 53 * 2 ^ 54
+    scaled = sym (mul-assoc m (2 ^ 53) (2 ^ 54))
+
+    high : m * 2 ^ 53 < H + 3 * sh → m * 2 ^ 107 < (e + 1) * (e + 1) * (e + 1)
+    high h =
+        lt-of-lt-of-le (lt-of-le-of-lt (le-of-eq scaled) (under-next (m * 2 ^ 53) H sh (e * e * e) (e * e) yl sl (cube-words e sh sl xh xl yh yl s x y) (sym s) h)) (above-one e)
+
+    low : H + 4 ≤ m * 2 ^ 53 + 3 * sh → (e - 1) * (e - 1) * (e - 1) ≤ m * 2 ^ 107
+    low h =
+        le-trans (go (e - 1) e (back e some) (m * 2 ^ 53 * 2 ^ 54) (over-last (m * 2 ^ 53) H sh (e * e * e) (e * e) yl sl e (cube-words e sh sl xh xl yh yl s x y) (sym s) d few h)) (le-of-eq (sym scaled))
+      where
+        back : (e : ℕ) → 0 < e → e ≡ e - 1 + 1
+        back e h = omega arith
+
+        drop : (a C S t W : ℕ) → a + 3 * S ≤ C + 3 * t → C + 3 * t ≤ W + 3 * S → a ≤ W
+        drop a C S t W p q = omega arith
+
+        go : (k e : ℕ) → e ≡ k + 1 → (W : ℕ) → e * e * e + 3 * e ≤ W + 3 * (e * e) → k * k * k ≤ W
+        go k e b W q =
+            drop (k * k * k) ((k + 1) * (k + 1) * (k + 1)) ((k + 1) * (k + 1)) (k + 1) W (below-one k)
+            (subst (λ (z : ℕ). z * z * z + 3 * z ≤ W + 3 * (z * z)) b q)
+
+    -- the difference as the code has it
+    pub beside : m / 2 ≤ xh + 4 → 2 ^ 57 < (xh + 8 - m / 2) * 2 ^ 54 + xl + yh - m % 2 * 2 ^ 53 + 3 * sh → (xh + 8 - m / 2) * 2 ^ 54 + xl + yh - m % 2 * 2 ^ 53 + 4 ≤ 2 ^ 57 + 3 * sh → Beside e (m * 2 ^ 107)
+    beside a p q = record { low = low (less m xh xl yh sh a q); high = high (more m xh xl yh sh a p) }
+      where
+        more : (m xh xl yh sh : ℕ) → m / 2 ≤ xh + 4 → 2 ^ 57 < (xh + 8 - m / 2) * 2 ^ 54 + xl + yh - m % 2 * 2 ^ 53 + 3 * sh → m * 2 ^ 53 < xh * 2 ^ 54 + (xl + yh) + 3 * sh
+        more m xh xl yh sh a p = omega arith
+
+        less : (m xh xl yh sh : ℕ) → m / 2 ≤ xh + 4 → (xh + 8 - m / 2) * 2 ^ 54 + xl + yh - m % 2 * 2 ^ 53 + 4 ≤ 2 ^ 57 + 3 * sh → xh * 2 ^ 54 + (xl + yh) + 4 ≤ m * 2 ^ 53 + 3 * sh
+        less m xh xl yh sh a q = omega arith
 
 -- a root of 54 digits at most
 pub short : (m r : ℕ) → m < 2 ^ 55 → r * r * r ≤ m * 2 ^ 107 → r < 2 ^ 54
 short m r h k = less-of-cubes r (2 ^ 54) (lt-of-le-of-lt k (mul-lt-mul-of-pos-right {m = m} {n = 2 ^ 55} {k = 2 ^ 107} h (lit< {m = 0} {n = 2 ^ 107} tt)))
-
-pub negated : (x : Bool) → not x ≡ true → x ≡ false
-negated true e = sym e
-negated false e = refl
-
-pub affirmed : (x : Bool) → not x ≡ false → x ≡ true
-affirmed true e = refl
-affirmed false e = sym e

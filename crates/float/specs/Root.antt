@@ -2,9 +2,11 @@
 -- In units of the format's smallest value, 2 ^ -low, the square of √x is x * 2 ^ (2 * low): a whole number. Its whole root has more digits than the format keeps.
 -- Where that root is not exact, half a unit more stands for what lies beyond it: it is on the same side of every value and of every midpoint between two as the true root.
 -- So the format's own `round` gives the value nearest to the true root: `Nearest.antt` says so in whole numbers. Assumes nothing.
-use Prim.Native.Nat.{ℕ, zero, suc, _+_, _*_, _/_, _%_, _^_, _≤_, _<_}
+use mathlib.Core.Path.{_≡_}
+use Prim.Native.Nat.{ℕ, zero, suc, _+_, _-_, _*_, _/_, _%_, _^_, _≤_, _<_}
 use mathlib.Core.Bool.{Bool, true, false, cond}
 use lib.Dec.{leb, eqb}
+use Rattle.float.specs.declared.root.Span.{Span}
 use lib.Ieee.{Float, nan, inf, fin, Format, binary64, low, up, down, size, round}
 
 -- q is the whole part of √n
@@ -17,6 +19,12 @@ pub record Root3 (n q : ℕ) : Type 0 where
   pub low : q * q * q ≤ n
   pub high : n < (q + 1) * (q + 1) * (q + 1)
 
+-- p is half the cube root of n, rounded: of its whole part and one more
+pub record HalfRoot3 (n p : ℕ) : Type 0 where
+  pub r : ℕ
+  pub root : Root3 n r
+  pub is : p ≡ (r + 1) / 2
+
 -- what `refine` asks: a is the whole root of n, b is a base that a step can have, and l is below b * b
 pub record Refinable (n a l b : ℕ) : Type 0 where
   pub root : Root n a
@@ -25,6 +33,18 @@ pub record Refinable (n a l b : ℕ) : Type 0 where
   pub wide : b ≤ 2 * a
   pub narrow : b ≤ 2 ^ 27
   pub digits : l < b * b
+
+-- the whole cube root of n is among the numbers of a span, of which there are some, none with more than 54 digits
+pub record CubeSpan (n : ℕ) (s : Span) : Type 0 where
+  pub low : s .from * s .from * s .from ≤ n
+  pub high : n < (s .from + s .width) * (s .from + s .width) * (s .from + s .width)
+  pub some : 0 < s .width
+  pub few : s .from + s .width ≤ 2 ^ 54
+
+-- the cube root of n is at least e - 1 and below e + 1
+pub record Beside (e n : ℕ) : Type 0 where
+  pub low : (e - 1) * (e - 1) * (e - 1) ≤ n
+  pub high : n < (e + 1) * (e + 1) * (e + 1)
 
 -- the whole part of √n, for n below 4 ^ d: that of n / 4, with one digit more
 unfoldable pub squareRoot : ℕ → ℕ → ℕ

@@ -2,11 +2,11 @@
 // and `cbrt` of specs/Root.antt say what they are.
 ghost use mathlib.Core.Path.{_≡_};
 ghost use Prim.Native.Nat.{_+_, _*_, _^_, _≤_, _<_};
-ghost use mathlib.Core.Bool.{false};
+ghost use mathlib.Core.Bool.{true, false};
 ghost use lib.Dec.{T, ltb};
 ghost use lib.Ieee.{binary64, toBits};
 ghost use lib.Ieee.Positive.{positive};
-ghost use Rattle.float.specs.Root.{Root, Root3, Refinable, sqrt, cbrt, roundedSqrt, roundedCbrt, unitsOf};
+ghost use Rattle.float.specs.Root.{Root, Root3, HalfRoot3, Beside, CubeSpan, Refinable, sqrt, cbrt, roundedSqrt, roundedCbrt, unitsOf};
 
 // The whole part of the square root of a number of 7 or 8 digits.
 fn root4(k: u64) -> u64
@@ -191,61 +191,109 @@ fn cube_above(r: u64, m: u64) -> bool
     if next < half { false } else { 0 < y.lo }
 }
 
-// The whole part of the cube root of m * 2^107, from one that is not below it.
-fn cube_down(from: u64, m: u64) -> u64
-    requires { ⌜ (from < 2 ^ 54) × (m * 2 ^ 107 < (from + 1) * (from + 1) * (from + 1)) ⌝ }
-    ensures { λ r. ⌜ Root3 (m * 2 ^ 107) r ⌝ }
-{
-    let mut r = from;
-    while cube_above(r, m) {
-        r = r - 1;
-    }
-    r
+// Where a whole cube root lies: from `from` on, among so many numbers.
+pub struct Span {
+    pub from: u64,
+    pub width: u64,
 }
 
-// The same, from one that is not above it.
-fn cube_up(from: u64, m: u64) -> u64
-    requires { ⌜ (m < 2 ^ 55) × (from * from * from ≤ m * 2 ^ 107) ⌝ }
-    ensures { λ r. ⌜ Root3 (m * 2 ^ 107) r ⌝ }
+// The half of a span in which the cube root of m * 2^107 lies.
+fn cube_halved(s: Span, m: u64) -> Span
+    requires { ⌜ CubeSpan (m * 2 ^ 107) s ⌝ }
+    requires { ⌜ 1 < s .width ⌝ }
+    ensures { λ r. ⌜ CubeSpan (m * 2 ^ 107) r ⌝ }
+    ensures { λ r. ⌜ r .width < s .width ⌝ }
 {
-    let mut r = from;
-    while !cube_above(r + 1, m) {
-        r = r + 1;
+    let half = s.width / 2;
+    let middle = s.from + half;
+    if cube_above(middle, m) {
+        return Span {
+            from: s.from,
+            width: half,
+        };
     }
-    r
+    Span {
+        from: middle,
+        width: s.width - half,
+    }
 }
 
-// The same, from a guess. One that is far off costs time.
-fn cube_root(m: u64, guess: u64) -> u64
+// The whole part of the cube root of m * 2^107, by halves: 54 at most.
+fn cube_root(m: u64) -> u64
     requires { ⌜ m < 2 ^ 55 ⌝ }
     ensures { λ r. ⌜ Root3 (m * 2 ^ 107) r ⌝ }
 {
-    let mut r = 0x40_0000_0000_0000;
-    if guess < r {
-        r = guess;
+    let mut s = Span {
+        from: 0,
+        width: 0x40_0000_0000_0000,
+    };
+    while 1 < s.width {
+        let t = cube_halved(s, m);
+        s = t;
     }
-    if cube_above(r, m) {
-        cube_down(r - 1, m)
-    } else {
-        cube_up(r, m)
-    }
+    s.from
 }
 
-// A guess at the cube root of m * 2^107, for an m of 53 digits shifted by i: in floats, a parabola
-// within 1.6% and two steps of Halley's method. Nothing rests on how near it is.
+// A guess at half the cube root of m * 2^107, for an m of 53 digits shifted by i: in floats, a
+// parabola within 1.6% and two steps of Halley's method. Nothing rests on how near it is.
 fn cube_guess(m: u64, i: u64) -> u64
     requires { ⌜ (2 ^ 52 ≤ m) × (m < 2 ^ 53) × (i < 3) ⌝ }
+    ensures { λ r. ⌜ (1 < r) × (r < 2 ^ 53) ⌝ }
 {
     let z = f64::from_bits(i * 0x10_0000_0000_0000 + m + 0x3fe0_0000_0000_0000);
     let x = 0.7625 + z * (0.2681 - z * 0.01467);
     let c = x * x * x;
     let y = x * (c + z + z) / (c + c + z);
     let d = y * y * y;
-    let r = y * (d + z + z) / (d + d + z);
+    let r = y + y * ((z - d) / (d + d + z));
     if r >= 1.0 {
-        return (f64::to_bits(r) % 0x10_0000_0000_0000 + 0x10_0000_0000_0000) * 2;
+        return f64::to_bits(r) % 0x10_0000_0000_0000 + 0x10_0000_0000_0000;
     }
-    0x20_0000_0000_0000
+    0x10_0000_0000_0000
+}
+
+// Whether the cube of e is so near to m * 2^107 that its root is surely within 1 of e: the two
+// differ by less than 3 times the square of e. They are compared above their last 54 digits, with
+// 8 * 2^54 added to the difference.
+fn root_beside(e: u64, m: u64) -> bool
+    requires { ⌜ (0 < e) × (e ≤ 2 ^ 54) ⌝ }
+    ensures { λ b. ⌜ (b ≡ true → Beside e (m * 2 ^ 107)) ⌝ }
+{
+    let s = product(e, e);
+    let x = product(s.hi, e);
+    let y = product(s.lo, e);
+    let half = m / 2;
+    if half > x.hi + 4 {
+        return false;
+    }
+    if x.hi > half + 4 {
+        return false;
+    }
+    let difference = (x.hi + 8 - half) * 0x40_0000_0000_0000 + x.lo + y.hi
+        - m % 2 * 0x20_0000_0000_0000;
+    if 0x200_0000_0000_0000 < difference + 3 * s.hi {
+        return difference + 4 <= 0x200_0000_0000_0000 + 3 * s.hi;
+    }
+    false
+}
+
+// The cube root of m * 2^107, whose whole part is R, halved and rounded: (R + 1) / 2. A number is
+// right exactly if the root lies between the odd numbers beside twice it. The guess is, or one of
+// its neighbours, but for roots next to a power of two.
+fn cube_half(m: u64, guess: u64) -> u64
+    requires { ⌜ (m < 2 ^ 55) × (1 < guess) × (guess < 2 ^ 53) ⌝ }
+    ensures { λ r. ⌜ HalfRoot3 (m * 2 ^ 107) r ⌝ }
+{
+    if root_beside(2 * guess, m) {
+        return guess;
+    }
+    if root_beside(2 * (guess + 1), m) {
+        return guess + 1;
+    }
+    if root_beside(2 * (guess - 1), m) {
+        return guess - 1;
+    }
+    (cube_root(m) + 1) / 2
 }
 
 // The pattern of the cube root, for the pattern of a value that is finite and above zero.
@@ -256,8 +304,8 @@ fn cbrt_bits(b: u64) -> u64
     let p = parts(b);
     let j = p.j;
     let i = j % 3;
-    let r = cube_root(p.m * (1 + i + i / 2), cube_guess(p.m, i));
-    (j / 3 + 664) * 0x10_0000_0000_0000 + (r + 1) / 2
+    let r = cube_half(p.m * (1 + i + i / 2), cube_guess(p.m, i));
+    (j / 3 + 664) * 0x10_0000_0000_0000 + r
 }
 
 // The cube root of a value that is finite and above zero.

@@ -26,6 +26,6 @@ unfolding norm sqrt add mul ofInt
 norm-1 = refl
 
 -- a quarter turn, whose sine is 1 and whose cosine is 0, about the z axis takes the x axis to the y axis
-quarter-turn : apply (rodrigues (vector 0 0 1) (whole (pos 1)) (whole (pos 1))) (vector 1 0 0) ≡ vector 0 1 0
-unfolding apply rodrigues add mul neg ofInt ofBits
+quarter-turn : apply (rodrigues (vector 0 0 1) (whole (pos 1)) (whole (pos 0))) (vector 1 0 0) ≡ vector 0 1 0
+unfolding apply rodrigues add sub mul neg ofInt ofBits
 quarter-turn = refl

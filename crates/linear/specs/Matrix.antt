@@ -75,16 +75,15 @@ row-scale a s = three (part a 0 ⊗ s) (part a 1 ⊗ s) (part a 2 ⊗ s)
 abbrev pub scaleᵐ : Matrix → Float → Matrix
 scaleᵐ a s = three (row-scale (row a 0) s) (row-scale (row a 1) s) (row-scale (row a 2) s)
 
--- I + hat s + hat hat v
+-- "Creates a 3x3 rotation matrix about `k` by `theta`" (subproblems/auxiliary.rs), for a normalised axis, a sine and a cosine:
+-- Matrix3::identity() + hat(&k) * theta.sin() + hat(&k) * hat(&k) * (1.0 - theta.cos())
 unfoldable pub rodrigues : Vector3 → Float → Float → Matrix
 unfolding product
-rodrigues u s v = let h = hat u in identity +ᵐ scaleᵐ h s +ᵐ scaleᵐ (product h h) v
+rodrigues k s c = identity +ᵐ scaleᵐ (hat k) s +ᵐ scaleᵐ (product (hat k) (hat k)) (one ⊖ c)
 
--- "Creates a 3x3 rotation matrix about `k` by `theta`" (subproblems/auxiliary.rs), for an axis that is already normalised:
--- Matrix3::identity() + hat(&k) * theta.sin() + hat(&k) * hat(&k) * (1.0 - theta.cos())
 unfoldable pub rot-unit : Vector3 → Float → Matrix
 unfolding rodrigues
-rot-unit u θ = rodrigues u (sin θ) (one ⊖ cos θ)
+rot-unit k θ = rodrigues k (sin θ) (cos θ)
 
 -- the same, whole: let k = k.normalize()
 unfoldable pub rot : Vector3 → Float → Matrix

@@ -104,39 +104,45 @@ pub fn transpose(a: Matrix3) -> Matrix3
     ]
 }
 
-// The rotation about a unit vector whose sine is s and whose cosine is 1 - v: the matrices of the
-// definition written out, with the zeros of the identity and of hat as numbers.
-fn rodrigues(u: Vector3, s: f64, v: f64) -> Matrix3
-    ensures { λ r. ⌜ r ≡ rodrigues u s v ⌝ }
+// The rotation about a normalised axis, by its sine and cosine. A zero of hat times a finite number
+// adds nothing but the sign of a zero, which the sums with the identity take in; times an infinity
+// it makes a NaN, and so it stays as a part of the factor.
+fn rodrigues(k: Vector3, s: f64, c: f64) -> Matrix3
+    ensures { λ r. ⌜ r ≡ rodrigues k s c ⌝ }
 {
-    let x = u.x;
-    let y = u.y;
-    let z = u.z;
+    let x = k.x;
+    let y = k.y;
+    let z = k.z;
+    let v = 1.0 - c;
+    let vx = v + 0.0 * x;
+    let vy = v + 0.0 * y;
+    let vz = v + 0.0 * z;
+    let d = 1.0 + 0.0 * s;
     [
         [
-            1.0 + 0.0 * s + (0.0 * 0.0 + -z * z + y * -y) * v,
-            0.0 + -z * s + (0.0 * -z + -z * 0.0 + y * x) * v,
-            0.0 + y * s + (0.0 * y + -z * -x + y * 0.0) * v,
+            d + (-z * z + y * -y) * v,
+            0.0 + -z * s + y * x * vz,
+            0.0 + y * s + -z * -x * vy,
         ],
         [
-            0.0 + z * s + (z * 0.0 + 0.0 * z + -x * -y) * v,
-            1.0 + 0.0 * s + (z * -z + 0.0 * 0.0 + -x * x) * v,
-            0.0 + -x * s + (z * y + 0.0 * -x + -x * 0.0) * v,
+            0.0 + z * s + -x * -y * vz,
+            d + (z * -z + -x * x) * v,
+            0.0 + -x * s + z * y * vx,
         ],
         [
-            0.0 + -y * s + (-y * 0.0 + x * z + 0.0 * -y) * v,
-            0.0 + x * s + (-y * -z + x * 0.0 + 0.0 * x) * v,
-            1.0 + 0.0 * s + (-y * y + x * -x + 0.0 * 0.0) * v,
+            0.0 + -y * s + x * z * vy,
+            0.0 + x * s + -y * -z * vx,
+            d + (-y * y + x * -x) * v,
         ],
     ]
 }
 
 // The rotation by theta about an axis that is already normalised.
-pub fn rot_unit(u: Vector3, theta: f64) -> Matrix3
-    ensures { λ r. ⌜ r ≡ rot-unit u theta ⌝ }
+pub fn rot_unit(k: Vector3, theta: f64) -> Matrix3
+    ensures { λ r. ⌜ r ≡ rot-unit k theta ⌝ }
 {
     let t = float::sin_cos(theta);
-    rodrigues(u, t.sin, 1.0 - t.cos)
+    rodrigues(k, t.sin, t.cos)
 }
 
 // The rotation by theta about k.

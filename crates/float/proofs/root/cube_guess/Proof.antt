@@ -27,9 +27,6 @@ float-to-bits-result c = at-least-one _ (subst T (sym (c .if1 .taken)) tt)
 add-result : tie.Need-add-result
 add-result c = search needs
 
-mul-result : tie.Need-mul-result
-mul-result c = search needs
-
 returns : tie.Need-returns
 returns c = search needs
 
@@ -37,4 +34,4 @@ returns-2 : tie.Need-returns-2
 returns-2 c = search needs
 
 pub cube-guess-spec : {M : Type 1} → statement M
-cube-guess-spec = tie.close (tie.spec mul-z add-z add-z-2 float-from-bits-z float-to-bits-result add-result mul-result returns returns-2)
+cube-guess-spec = tie.close (tie.spec mul-z add-z add-z-2 float-from-bits-z float-to-bits-result add-result returns returns-2)

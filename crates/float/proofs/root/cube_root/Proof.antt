@@ -1,38 +1,52 @@
--- `float::root::cube_root` meets its contract: a guess whose cube is above is searched from downwards, and any other upwards. Assumes nothing.
-use Prim.Native.Nat.{ℕ, _+_, _-_, _*_, _^_, _≤_, _<_}
+-- `float::root::cube_root` meets its contract: a span of one number holds the root. Assumes nothing.
+use mathlib.Core.Path.{_≡_, subst}
+use Prim.Native.Nat.{ℕ, _+_, _*_, _^_, _≤_, _<_, zero-le}
+use native.Mathlib.Nat.{mul-lt-mul-of-pos-right}
 use native.Mathlib.Omega.{arith}
-use mathlib.Core.Logic.{⊎-elim}
+use lib.Dec.{lit<, lit≤}
+use Rattle.float.specs.Root.{Root3, CubeSpan}
+use Rattle.float.specs.declared.root.Span.{Span}
 use borrow.Author.Needs.{needs}
-use Rattle.float.proofs.Cubes.{test-passed, test-failed, above-some, above-next}
 use Rattle.float.proofs.root.cube_root.Statement.{statement}
 use Rattle.float.proofs.root.cube_root.Tie as tie
 
-at-most : (c : tie.Joined1) → c .if1 .r ≤ 2 ^ 54
-at-most c = ⊎-elim (λ w. omega arith) (λ w. omega arith) (c .if1 .came)
+abbrev Inv-loop : tie.InvT-loop
+Inv-loop m s₀ s = CubeSpan (m * 2 ^ 107) s
 
-above : (c : tie.Then2) → c .before .before .before .args .m * 2 ^ 107 < c .before .before .if1 .r * c .before .before .if1 .r * c .before .before .if1 .r
-above c = test-passed _ _ _ (c .before .cube-above .ensures) (c .if2 .taken)
+abbrev μ-loop : tie.MeasureT-loop
+μ-loop m s₀ s = s .width
 
-under : (r : ℕ) → r ≤ 2 ^ 54 → 1 ≤ r → r - 1 < 2 ^ 54
-under r h k = omega arith
+all : (m : ℕ) → m < 2 ^ 55 → CubeSpan (m * 2 ^ 107) (record { from = 0; width = 2 ^ 54 })
+all m h =
+    record {
+      low = zero-le;
+      high = mul-lt-mul-of-pos-right {m = m} {n = 2 ^ 55} {k = 2 ^ 107} h (lit< {m = 0} {n = 2 ^ 107} tt);
+      some = lit< tt;
+      few = lit≤ tt;
+    }
 
-cube-above-requires : tie.Need-cube-above-requires
-cube-above-requires c κs = at-most c
+single : (n : ℕ) (s : Span) → CubeSpan n s → s .width ≤ 1 → Root3 n (s .from)
+single n s span h = record { low = span .low; high = subst (λ (w : ℕ). n < (s .from + w) * (s .from + w) * (s .from + w)) (one (s .width) (span .some) h) (span .high) }
+  where
+    one : (w : ℕ) → 0 < w → w ≤ 1 → w ≡ 1
+    one w a b = omega arith
 
-sub-cube-down : tie.Need-sub-cube-down
-sub-cube-down c = above-some _ _ (above (c .before))
+loop-holds : tie.Need-loop-holds Inv-loop μ-loop
+loop-holds c = all _ (c .pre)
 
-cube-down-requires : tie.Need-cube-down-requires
-cube-down-requires c κs = (under _ (at-most (c .before .before .before)) (above-some _ _ (above (c .before))), above-next _ _ (above (c .before)))
+cube-halved-requires : tie.Need-cube-halved-requires Inv-loop μ-loop
+cube-halved-requires c κs = search needs
 
-cube-up-requires : tie.Need-cube-up-requires
-cube-up-requires c κs = (c .before .before .before .pre, test-failed _ _ _ (c .before .cube-above .ensures) (c .if2 .left))
+loop-less : tie.Need-loop-less Inv-loop μ-loop
+loop-less c = c .cube-halved .ensures .1
 
-returns : tie.Need-returns
-returns c = search needs
+loop-again : tie.Need-loop-again Inv-loop μ-loop
+loop-again c = c .cube-halved .ensures .0
 
-returns-2 : tie.Need-returns-2
-returns-2 c = search needs
+returns : tie.Need-returns Inv-loop μ-loop
+returns c = search single
 
 pub cube-root-spec : {M : Type 1} → statement M
-cube-root-spec = tie.close (tie.spec cube-above-requires sub-cube-down cube-down-requires cube-up-requires returns returns-2)
+cube-root-spec =
+    tie.close
+    (tie.spec Inv-loop μ-loop loop-holds cube-halved-requires loop-less loop-again returns)

@@ -1,0 +1,329 @@
+//! The published Rust run over document 01's rules: a reference implementation that a port is
+//! compared with bit for bit.
+
+mod arith;
+mod arms;
+mod bench;
+mod block;
+mod cases;
+mod complex;
+mod functions;
+mod generate;
+mod inputs;
+mod inverse;
+mod inverse_kinematics;
+#[cfg(test)]
+mod known_results;
+mod linalg;
+mod nearest;
+mod odd;
+mod recover;
+mod rng;
+mod run;
+mod solutionset;
+mod solve;
+mod subproblems;
+
+use arith::{Arith, Machine, Rules};
+use block::canonical_bits;
+use functions::{Function, Group};
+use inverse_kinematics::{auxiliary::Kinematics, two_parallel_search};
+use std::io::{self, BufRead, BufWriter, Read, Write};
+use std::process::ExitCode;
+
+const USAGE: &str = "\
+usage: oracle COMMAND
+
+  blocks [--room N]                      solve the 512-byte blocks on standard input
+  pairs                                  the search's list for each block of family 6, with what
+                                         added each pair
+  call NAME                              run one function on each line of hexadecimal arguments
+  call --list                            the functions with their argument words
+  generate KIND FAMILY SEED COUNT [N]    blocks; KIND is reachable, unreachable, bent, random,
+                                         hostile or headers
+  angles KIND FAMILY SEED COUNT [N]      the angles that made the poses of generate's blocks
+  recover FAMILY SEED COUNT [N]          how many reachable poses have their own angles among
+                                         their answers (n = 200 in family 6)
+  cases GROUP SEED COUNT                 test records; GROUP is float, linear, complex, polynomial,
+                                         subproblems, kinematics or families
+  layout                                 the layouts of the test records
+  bench GROUP ID COUNT SEED [N]          run one function COUNT times over inputs made before;
+                                         the group family is families
+
+Option --machine takes the machine's sine, cosine, arctangent and roots instead of document 01's.
+";
+
+/// The command line apart from its options.
+struct CommandLine {
+    words: Vec<String>,
+    machine: bool,
+    list: bool,
+    room: usize,
+}
+
+/// What went wrong, in words for the user.
+type Failure = String;
+
+fn main() -> ExitCode {
+    match parse(std::env::args().skip(1)).and_then(|line| dispatch(&line)) {
+        Ok(()) => ExitCode::SUCCESS,
+        Err(message) => {
+            eprintln!("oracle: {message}");
+            ExitCode::from(2)
+        }
+    }
+}
+
+fn parse(arguments: impl Iterator<Item = String>) -> Result<CommandLine, Failure> {
+    let mut line = CommandLine {
+        words: Vec::new(),
+        machine: false,
+        list: false,
+        room: 1024,
+    };
+    let mut arguments = arguments;
+    while let Some(argument) = arguments.next() {
+        match argument.as_str() {
+            "--machine" => line.machine = true,
+            "--list" => line.list = true,
+            "--room" => {
+                let room = arguments.next().ok_or("--room needs a number")?;
+                line.room = number(&room)? as usize;
+            }
+            option if option.starts_with("--") => return Err(format!("unknown option {option}")),
+            _ => line.words.push(argument),
+        }
+    }
+    Ok(line)
+}
+
+fn dispatch(line: &CommandLine) -> Result<(), Failure> {
+    let mut output = BufWriter::new(io::stdout().lock());
+    let done = if line.machine {
+        command::<Machine>(line, &mut output)
+    } else {
+        command::<Rules>(line, &mut output)
+    };
+    done.and_then(|()| told(output.flush()))
+}
+
+fn command<A: Arith>(line: &CommandLine, output: &mut impl Write) -> Result<(), Failure> {
+    let words: Vec<&str> = line.words.iter().map(String::as_str).collect();
+    match words[..] {
+        ["blocks"] => told(block::solve_blocks::<A>(
+            &mut io::stdin().lock(),
+            output,
+            line.room,
+        )),
+        ["pairs"] => told(print_pairs::<A>(&mut io::stdin().lock(), output)),
+        ["call"] if line.list => told(list_functions(output)),
+        ["call", name] => {
+            let function = functions::by_name(name).ok_or(format!("no function {name}"))?;
+            call::<A>(function, &mut io::stdin().lock(), output)
+        }
+        ["generate", kind, family, seed, count, ref n @ ..] => {
+            let request = Generated::parse(kind, family, seed, count, n)?;
+            told(request.write_blocks(output))
+        }
+        ["angles", kind, family, seed, count, ref n @ ..] => {
+            let request = Generated::parse(kind, family, seed, count, n)?;
+            request.write_angles(output)
+        }
+        ["recover", family, seed, count, ref n @ ..] => {
+            let request = Generated::parse("reachable", family, seed, count, n)?;
+            told(request.write_recovered::<A>(output))
+        }
+        ["cases", group, seed, count] => {
+            let (group, seed, count) = (group_named(group)?, number(seed)?, number(count)?);
+            told(cases::write_cases::<A>(output, group, seed, count))
+        }
+        ["layout"] => told(output.write_all(cases::LAYOUT.as_bytes())),
+        ["bench", group, id, count, seed, ref n @ ..] => {
+            let (group, id) = (group_named(group)?, number(id)?);
+            let function = functions::by_id(group, id).ok_or("no such function")?;
+            let (count, seed) = (number(count)? as usize, number(seed)?);
+            let folded = bench::bench::<A>(function, count, seed, optional_n(n)?);
+            told(writeln!(output, "{} {count} {folded:016x}", function.name))
+        }
+        [] | ["help"] => told(output.write_all(USAGE.as_bytes())),
+        _ => Err(format!("cannot read the command line\n\n{USAGE}")),
+    }
+}
+
+/// A reader that closes the pipe early is no failure.
+fn told(result: io::Result<()>) -> Result<(), Failure> {
+    match result {
+        Err(error) if error.kind() == io::ErrorKind::BrokenPipe => Ok(()),
+        other => other.map_err(|error| error.to_string()),
+    }
+}
+
+fn number(text: &str) -> Result<u64, Failure> {
+    text.parse()
+        .map_err(|_| format!("{text} is not a whole number"))
+}
+
+fn optional_n(words: &[&str]) -> Result<Option<u64>, Failure> {
+    match words {
+        [] => Ok(None),
+        [n] => Ok(Some(number(n)?)),
+        _ => Err("too many words".to_string()),
+    }
+}
+
+fn group_named(name: &str) -> Result<Group, Failure> {
+    let name = if name == "family" { "families" } else { name };
+    functions::GROUPS
+        .iter()
+        .find(|(known, _)| *known == name)
+        .map(|(_, group)| *group)
+        .ok_or(format!("no group {name}"))
+}
+
+/// The arguments of generate, angles and recover.
+struct Generated {
+    kind: generate::Kind,
+    family: u64,
+    seed: u64,
+    count: u64,
+    n: Option<u64>,
+}
+
+impl Generated {
+    fn parse(
+        kind: &str,
+        family: &str,
+        seed: &str,
+        count: &str,
+        n: &[&str],
+    ) -> Result<Self, Failure> {
+        let family = number(family)?;
+        if !solve::FAMILIES.contains(&family) {
+            return Err(format!("family {family} is not 1 to 6"));
+        }
+        Ok(Generated {
+            kind: generate::KINDS
+                .iter()
+                .find(|(name, _)| *name == kind)
+                .map(|(_, kind)| *kind)
+                .ok_or(format!("no kind {kind}"))?,
+            family,
+            seed: number(seed)?,
+            count: number(count)?,
+            n: optional_n(n)?,
+        })
+    }
+
+    fn write_blocks(&self, output: &mut impl Write) -> io::Result<()> {
+        for place in 0..self.count {
+            output.write_all(&generate::block_bytes(
+                self.kind,
+                self.family,
+                self.seed,
+                place,
+                self.count,
+                self.n,
+            ))?;
+        }
+        Ok(())
+    }
+
+    fn write_angles(&self, output: &mut impl Write) -> Result<(), Failure> {
+        use generate::Kind::*;
+        if !matches!(self.kind, Reachable | Unreachable | Bent) {
+            return Err("poses of this kind are not made from angles".to_string());
+        }
+        for place in 0..self.count {
+            let sample = generate::sample(self.kind, self.family, self.seed, place, self.n);
+            let fields = sample.angles.map(|x| format!("{:016x}", x.to_bits()));
+            told(writeln!(output, "{}", fields.join(" ")))?;
+        }
+        Ok(())
+    }
+
+    fn write_recovered<A: Arith>(&self, output: &mut impl Write) -> io::Result<()> {
+        let n = self.n.unwrap_or(200);
+        let r = recover::recover::<A>(self.family, self.seed, self.count, Some(n));
+        writeln!(
+            output,
+            "family {} poses {} unflagged {} flagged {} missed {} answers {} evals {}",
+            self.family,
+            r.poses,
+            r.unflagged,
+            r.flagged,
+            r.poses - r.unflagged - r.flagged,
+            r.answers,
+            r.evaluations
+        )
+    }
+}
+
+/// One line for each block: its place, the pairs and the evaluations; then one for each pair: q1,
+/// the component, and what added it. Blocks that are refused or not of family 6 have no pairs.
+fn print_pairs<A: Arith>(input: &mut impl Read, output: &mut impl Write) -> io::Result<()> {
+    block::for_each_block(input, |place, bytes| {
+        let request = block::parse(bytes).ok().filter(|request| {
+            let numbers = request.arm.iter().chain(&request.pose);
+            request.family == solve::TWO_PARALLEL
+                && (1..=400).contains(&request.n)
+                && numbers.into_iter().all(|x| x.is_finite())
+        });
+        let Some(request) = request else {
+            return writeln!(output, "block {place} pairs 0 evals 0");
+        };
+        let (r, p) = solve::pose_parts(&request.pose);
+        let kin = Kinematics::from_arm(&request.arm);
+        let search = two_parallel_search::<A>(&r, &p, &kin, request.n as usize);
+        let (pairs, evaluations) = (search.zeros.len(), search.evaluations);
+        writeln!(output, "block {place} pairs {pairs} evals {evaluations}")?;
+        for found in &search.zeros {
+            let bits = canonical_bits(found.x);
+            writeln!(output, "{bits:016x} {} {}", found.component, found.origin)?;
+        }
+        Ok(())
+    })
+}
+
+fn list_functions(output: &mut impl Write) -> io::Result<()> {
+    for function in functions::FUNCTIONS {
+        let shape: Vec<String> = function.shape.iter().map(|k| format!("{k:?}")).collect();
+        let more = if function.shape == [functions::Kind::Triples] {
+            "+"
+        } else {
+            ""
+        };
+        writeln!(
+            output,
+            "{} {}{more} {}",
+            function.name,
+            function.arity(),
+            shape.join(" ").to_lowercase()
+        )?;
+    }
+    Ok(())
+}
+
+/// Runs the function on each line of argument words and prints a line of results.
+fn call<A: Arith>(
+    function: &Function,
+    input: &mut impl BufRead,
+    output: &mut impl Write,
+) -> Result<(), Failure> {
+    for (place, line) in input.lines().enumerate() {
+        let line = line.map_err(|error| error.to_string())?;
+        let words = line
+            .split_whitespace()
+            .map(|word| u64::from_str_radix(word, 16))
+            .collect::<Result<Vec<u64>, _>>()
+            .map_err(|_| format!("line {}: not hexadecimal words", place + 1))?;
+        let arity = function.arity_of(&words);
+        if words.len() != arity {
+            let found = words.len();
+            return Err(format!("line {}: {found} words, not {arity}", place + 1));
+        }
+        let mut fields = run::Fields::default();
+        run::run::<A>(function, &words, &mut fields);
+        told(writeln!(output, "{}", fields.0.join(" ")))?;
+    }
+    Ok(())
+}
