@@ -1,0 +1,6 @@
+pub mod Columns
+pub mod Subproblem1
+pub mod Subproblem2
+pub mod Subproblem3
+pub mod Subproblem4
+pub mod SinCosForms
