@@ -1,1 +1,3 @@
 pub mod Commute
+pub mod NumberOrder
+pub mod Sorting

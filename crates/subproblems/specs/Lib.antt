@@ -4,3 +4,5 @@ pub mod Subproblem2
 pub mod Subproblem3
 pub mod Subproblem4
 pub mod SinCosForms
+pub mod Sort
+pub mod Sorted

@@ -2,6 +2,7 @@
 // every f64, and none asks anything of its caller.
 mod shared;
 mod sincos;
+mod sort;
 mod sp1;
 mod sp2;
 mod sp3;
@@ -15,6 +16,7 @@ pub use sincos::subproblem4_sc;
 use solutionset::PairSet2;
 use solutionset::SinCosSet2;
 use solutionset::SolutionSet2;
+use solutionset::Triple;
 pub use sp1::subproblem1;
 pub use sp1::subproblem1_is_ls;
 pub use sp1::subproblem1_theta;
@@ -48,6 +50,12 @@ pub struct SolvedPairs2 {
 pub struct SolvedSinCos {
     pub sc: SinCos,
     pub is_ls: bool,
+}
+
+// A candidate of subproblem 5 with the number that decides whether it is kept.
+pub struct Ordered {
+    pub ordering: f64,
+    pub solution: Triple,
 }
 
 pub struct SolvedSinCos2 {
