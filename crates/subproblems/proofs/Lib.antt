@@ -1,3 +1,4 @@
 pub mod Commute
 pub mod NumberOrder
 pub mod Sorting
+pub mod Passes

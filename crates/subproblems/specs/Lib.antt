@@ -6,3 +6,4 @@ pub mod Subproblem4
 pub mod SinCosForms
 pub mod Sort
 pub mod Sorted
+pub mod Reduced
