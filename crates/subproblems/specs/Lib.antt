@@ -7,3 +7,5 @@ pub mod SinCosForms
 pub mod Sort
 pub mod Sorted
 pub mod Reduced
+pub mod Subproblem5
+pub mod Subproblem6
