@@ -9,17 +9,15 @@ use Rattle.float.specs.Root.{sqrt}
 use Rattle.float.specs.Sine.{sin, cos}
 use Rattle.float.specs.Arctangent.{atan2}
 use Rattle.complex.specs.Complex.{_+ᶜ_, _-ᶜ_, _*ᶜ_, _/ᶜ_, negᶜ, scaleᶜ, absᶜ, sqrtᶜ}
-use Rattle.complex.specs.declared.Complex.{Complex}
 use Rattle.linear.specs.Vector.{norm}
 use Rattle.linear.specs.declared.Vector3.{Vector3}
 use Rattle.polynomial.specs.Convolution.{vec-self-convolve-2, vec-self-convolve-3, vec-convolve-3}
 use Rattle.polynomial.specs.Triangular.{solve-lower-triangular-system-2x2}
-use Rattle.polynomial.specs.Qr.{reflection-4, reflect-4, reflection-3, reflect-3, columns, signed, qr}
+use Rattle.polynomial.specs.Qr.{reflection-4, reflect-4, reflection-3, reflect-3, signed, qr}
 use Rattle.polynomial.specs.Roots.{from-real, in-slots}
 use Rattle.polynomial.specs.Quadratic.{solve-quadratic-roots}
 use Rattle.polynomial.specs.declared.Matrix2.{Matrix2}
 use Rattle.polynomial.specs.declared.Quadratic.{Quadratic}
-use Rattle.polynomial.specs.declared.QrFactors.{QrFactors}
 use Rattle.polynomial.specs.declared.Vector2.{Vector2}
 use Rattle.polynomial.specs.declared.Vector4.{Vector4}
 use Rattle.polynomial.specs.declared.Vector5.{Vector5}
