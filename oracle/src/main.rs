@@ -7,6 +7,7 @@ mod bench;
 mod block;
 mod cases;
 mod complex;
+mod differ;
 mod functions;
 mod generate;
 mod inputs;
@@ -44,6 +45,8 @@ usage: oracle COMMAND
   angles KIND FAMILY SEED COUNT [N]      the angles that made the poses of generate's blocks
   recover FAMILY SEED COUNT [N]          how many reachable poses have their own angles among
                                          their answers (n = 200 in family 6)
+  differ FAMILY SEED COUNT [N]           the largest difference between the answers under
+                                         document 01's rules and under the machine's functions
   cases GROUP SEED COUNT                 test records; GROUP is float, linear, complex, polynomial,
                                          subproblems, kinematics or families
   layout                                 the layouts of the test records
@@ -132,6 +135,10 @@ fn command<A: Arith>(line: &CommandLine, output: &mut impl Write) -> Result<(), 
         ["recover", family, seed, count, ref n @ ..] => {
             let request = Generated::parse("reachable", family, seed, count, n)?;
             told(request.write_recovered::<A>(output))
+        }
+        ["differ", family, seed, count, ref n @ ..] => {
+            let request = Generated::parse("reachable", family, seed, count, n)?;
+            told(request.write_differences(output))
         }
         ["cases", group, seed, count] => {
             let (group, seed, count) = (group_named(group)?, number(seed)?, number(count)?);
@@ -237,6 +244,31 @@ impl Generated {
             let sample = generate::sample(self.kind, self.family, self.seed, place, self.n);
             let fields = sample.angles.map(|x| format!("{:016x}", x.to_bits()));
             told(writeln!(output, "{}", fields.join(" ")))?;
+        }
+        Ok(())
+    }
+
+    fn write_differences(&self, output: &mut impl Write) -> io::Result<()> {
+        let n = self.n.unwrap_or(200);
+        let d = differ::differ(self.family, self.seed, self.count, Some(n));
+        let first = d
+            .first_list
+            .map_or("-".to_string(), |place| place.to_string());
+        writeln!(
+            output,
+            "family {} poses {} lists-that-differ {} first {first}",
+            self.family, d.poses, d.lists
+        )?;
+        for (name, class) in [
+            ("regular", d.regular),
+            ("singular", d.singular),
+            ("flagged", d.flagged),
+        ] {
+            writeln!(
+                output,
+                "  {name} answers {} largest {:e} at pose {}",
+                class.answers, class.difference, class.place
+            )?;
         }
         Ok(())
     }
