@@ -131,17 +131,19 @@ sides c h square hk2 =
     let pm : Vector2 = record { x = c .«j_a_k2» .x ⊗ root; y = c .«j_a_k2» .y ⊗ root } in
     record { plus = side c const pm hk2 one; minus = side c const pm hk2 (neg one) }
 
--- the candidate of two signs, where the norms differ by less than 1e-6
-unfoldable pub candidate : Vector3 → Side → Side → List Triple
-candidate k2 s1 s3 =
-    cond (lt (abs (s1 .distance ⊖ s3 .distance)) epsilon)
-    (record {
+-- (sc1[0].atan2(sc1[1]), theta2_value, sc3[0].atan2(sc3[1])), with theta2_value of subproblem1(&v3, &v1, k2)
+unfoldable pub angles : Vector3 → Side → Side → Triple
+angles k2 s1 s3 =
+    record {
       first = atan2 (s1 .sc .x) (s1 .sc .y);
       second = subproblem1 (s3 .v) (s1 .v) k2 .theta;
       third = atan2 (s3 .sc .x) (s3 .sc .y);
     }
-    ∷ [])
-    []
+
+-- the candidate of two signs, where the norms differ by less than 1e-6
+unfoldable pub candidate : Vector3 → Side → Side → List Triple
+unfolding angles
+candidate k2 s1 s3 = cond (lt (abs (s1 .distance ⊖ s3 .distance)) epsilon) (angles k2 s1 s3 ∷ []) []
 
 -- signs_1 = [1.0, 1.0, -1.0, -1.0], signs_3 = [1.0, -1.0, 1.0, -1.0]
 unfoldable pub signed : Vector3 → Sides → Sides → List Triple

@@ -15,6 +15,7 @@ use float::SinCos;
 use linear::Vector3;
 use polynomial::Vector2;
 use polynomial::Vector4;
+pub use reduced::reduced_solutionset;
 pub use sincos::subproblem1_sc;
 pub use sincos::subproblem3_sc;
 pub use sincos::subproblem4_sc;

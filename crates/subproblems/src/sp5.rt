@@ -21,7 +21,7 @@ ghost use Prim.Native.Nat.{_<_, _≤_};
 ghost use lib.ListN.{take};
 ghost use Rattle.solutionset.specs.SolutionSet4 as floats;
 ghost use Rattle.solutionset.specs.TripleSet4.{slots};
-ghost use Rattle.subproblems.specs.Subproblem5.{j-apply, circle, eqn-real, h-vec, sq, side, sides, candidate, signed, at-root, pushed, in-sixteen, subproblem5};
+ghost use Rattle.subproblems.specs.Subproblem5.{j-apply, circle, eqn-real, h-vec, sq, side, sides, angles, candidate, signed, at-root, pushed, in-sixteen, subproblem5};
 
 // A quarter turn of the transposed matrix, times k2: the zeros count, for infinities and signs.
 fn j_apply(a: Columns, k2: Vector3) -> Vector2
@@ -149,28 +149,31 @@ fn sides(c: Circle, h: f64, square: f64, hk2: Vector3) -> Sides
     }
 }
 
+fn angles(k2: Vector3, s1: Side, s3: Side) -> Triple
+    ensures { λ r. ⌜ r ≡ angles k2 s1 s3 ⌝ }
+{
+    let sc1 = s1.sc;
+    let sc3 = s3.sc;
+    let v1 = s1.v;
+    let v3 = s3.v;
+    Triple {
+        first: float::atan2(sc1.x, sc1.y),
+        second: subproblem1_theta(v3, v1, k2),
+        third: float::atan2(sc3.x, sc3.y),
+    }
+}
+
 // The candidate of two points, after those found before it.
 fn push(found: TripleSlots4, k2: Vector3, s1: Side, s3: Side) -> TripleSlots4
     requires { ⌜ found .count < 4 ⌝ }
     ensures { λ r. ⌜ r ≡ pushed found (candidate k2 s1 s3) ⌝ }
 {
     if float::abs(s1.distance - s3.distance) < 1e-6 {
-        let sc1 = s1.sc;
-        let sc3 = s3.sc;
-        let v1 = s1.v;
-        let v3 = s3.v;
-        let theta = Triple {
-            first: float::atan2(sc1.x, sc1.y),
-            second: subproblem1_theta(v3, v1, k2),
-            third: float::atan2(sc3.x, sc3.y),
-        };
         let mut slots = found.slots;
         let n = found.count;
-        slots[n] = theta;
-        return TripleSlots4 {
-            slots,
-            count: n + 1,
-        };
+        slots[n] = angles(k2, s1, s3);
+        let count = n + 1;
+        return TripleSlots4 { slots, count };
     }
     found
 }
