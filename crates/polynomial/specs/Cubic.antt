@@ -52,9 +52,9 @@ solve-cubic-roots p =
     let c = p .c in
     let d = p .d in
     cond (lt (absᶜ a) epsilon) (solve-quadratic-roots (record { a = b; b = c; c = d }))
-    (let s1 = p1 a b c in
-    let s2 = p2 a b c d in
-    let t1 = q1 s1 s2 in
-    let t2 = q2 s1 s2 in
-    cond (lt epsilon (absᶜ t1)) (three-roots a b s1 t1)
-    (cond (lt epsilon (absᶜ t2)) (three-roots a b s1 t2) (one-root a b)))
+    (let p1 = p1 a b c in
+    let p2 = p2 a b c d in
+    let q1 = q1 p1 p2 in
+    let q2 = q2 p1 p2 in
+    cond (lt epsilon (absᶜ q1)) (three-roots a b p1 q1)
+    (cond (lt epsilon (absᶜ q2)) (three-roots a b p1 q2) (one-root a b)))

@@ -8,3 +8,4 @@ pub mod Cubic
 pub mod Quartic
 pub mod RootCount
 pub mod Ellipse
+pub mod PolynomialValues

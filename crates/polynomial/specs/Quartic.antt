@@ -68,15 +68,15 @@ four-roots a b p4 p5 p6 =
 -- the formula, for an a that counts as more than zero
 unfoldable pub formula : Complex → Complex → Complex → Complex → Complex → Roots
 formula a b c d e =
-    let s1 = p1 a b c d e in
-    let t1 = q1 a b c d e in
-    let s2 = p2 s1 t1 in
-    let t2 = q2 s2 in
-    let s3 = p3 a t1 t2 in
-    let s4 = p4 a b c s3 in
-    let s5 = p5 a b c s3 in
-    let s6 = p6 a b c d s4 in
-    four-roots a b s4 s5 s6
+    let p1 = p1 a b c d e in
+    let q1 = q1 a b c d e in
+    let p2 = p2 p1 q1 in
+    let q2 = q2 p2 in
+    let p3 = p3 a q1 q2 in
+    let p4 = p4 a b c p3 in
+    let p5 = p5 a b c p3 in
+    let p6 = p6 a b c d p4 in
+    four-roots a b p4 p5 p6
 
 unfoldable pub solve-quartic-roots : Quartic → Roots
 solve-quartic-roots p =

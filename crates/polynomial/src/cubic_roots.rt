@@ -65,9 +65,9 @@ fn three_roots(a: Complex, b: Complex, p1: Complex, e0: Complex) -> Roots
     ensures { λ r. ⌜ r ≡ three-roots a b p1 e0 ⌝ }
 {
     let none = Complex { re: 0.0, im: 0.0 };
-    let third = z();
-    let e1 = complex::mul(e0, third);
-    let e2 = complex::mul(e1, third);
+    let z = z();
+    let e1 = complex::mul(e0, z);
+    let e2 = complex::mul(e1, z);
     let factor = outer(a);
     let first = root(factor, b, p1, e0);
     let second = root(factor, b, p1, e1);
@@ -100,15 +100,15 @@ pub fn solve_cubic_roots(p: Cubic) -> Roots
     if complex::abs(a) < EPSILON {
         return solve_quadratic_roots(Quadratic { a: b, b: c, c: d });
     }
-    let s1 = p1(a, b, c);
-    let s2 = p2(a, b, c, d);
-    let t1 = q1(s1, s2);
-    if complex::abs(t1) > EPSILON {
-        return three_roots(a, b, s1, t1);
+    let p1 = p1(a, b, c);
+    let p2 = p2(a, b, c, d);
+    let q1 = q1(p1, p2);
+    if complex::abs(q1) > EPSILON {
+        return three_roots(a, b, p1, q1);
     }
-    let t2 = q2(s1, s2);
-    if complex::abs(t2) > EPSILON {
-        return three_roots(a, b, s1, t2);
+    let q2 = q2(p1, p2);
+    if complex::abs(q2) > EPSILON {
+        return three_roots(a, b, p1, q2);
     }
     one_root(a, b)
 }

@@ -133,15 +133,15 @@ fn four_roots(a: Complex, b: Complex, p4: Complex, p5: Complex, p6: Complex) -> 
 fn formula(a: Complex, b: Complex, c: Complex, d: Complex, e: Complex) -> Roots
     ensures { λ r. ⌜ r ≡ formula a b c d e ⌝ }
 {
-    let s1 = p1(a, b, c, d, e);
-    let t1 = q1(a, b, c, d, e);
-    let s2 = p2(s1, t1);
-    let t2 = q2(s2);
-    let s3 = p3(a, t1, t2);
-    let s4 = p4(a, b, c, s3);
-    let s5 = p5(a, b, c, s3);
-    let s6 = p6(a, b, c, d, s4);
-    four_roots(a, b, s4, s5, s6)
+    let p1 = p1(a, b, c, d, e);
+    let q1 = q1(a, b, c, d, e);
+    let p2 = p2(p1, q1);
+    let q2 = q2(p2);
+    let p3 = p3(a, q1, q2);
+    let p4 = p4(a, b, c, p3);
+    let p5 = p5(a, b, c, p3);
+    let p6 = p6(a, b, c, d, p4);
+    four_roots(a, b, p4, p5, p6)
 }
 
 pub fn solve_quartic_roots(p: Quartic) -> Roots
