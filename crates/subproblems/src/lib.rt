@@ -1,5 +1,5 @@
 // The subproblems of IK-Geo (subproblems/mod.rs): each function equals its definition in specs/ for
-// every f64, and none asks anything of its caller.
+// every f64, and none of the subproblems asks anything of its caller.
 mod reduced;
 mod shared;
 mod sincos;
@@ -15,6 +15,7 @@ use float::SinCos;
 use linear::Vector3;
 use polynomial::Vector2;
 use polynomial::Vector4;
+pub use reduced::reduced_solutionset;
 pub use sincos::subproblem1_sc;
 pub use sincos::subproblem3_sc;
 pub use sincos::subproblem4_sc;

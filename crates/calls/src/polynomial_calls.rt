@@ -1,9 +1,10 @@
-// The functions of the crate polynomial by their number, over plain numbers: what its test program
-// and the benchmark call. Arguments and results stand as in the oracle's test records (`oracle
-// layout`): a vector by its parts, a matrix by rows, a complex number as re and im, a set or a list
-// of roots as its count and four slots.
+// The functions of the crate polynomial.
+use crate::shapes::put;
+use crate::shapes::put_pairs;
+use crate::shapes::put_two;
+use crate::shapes::put_vector;
+use crate::shapes::vector;
 use complex::Complex;
-use linear::Vector3;
 use polynomial::Cubic;
 use polynomial::Matrix2;
 use polynomial::Quadratic;
@@ -12,7 +13,6 @@ use polynomial::Roots;
 use polynomial::Vector2;
 use polynomial::Vector4;
 use polynomial::Vector5;
-use solutionset::Pair;
 ghost use Prim.Native.Nat.{_+_, _≤_};
 
 fn vector2(args: &[f64; 40], i: usize) -> Vector2
@@ -21,16 +21,6 @@ fn vector2(args: &[f64; 40], i: usize) -> Vector2
     Vector2 {
         x: args[i],
         y: args[i + 1],
-    }
-}
-
-fn vector(args: &[f64; 40], i: usize) -> Vector3
-    requires { ⌜ i + 3 ≤ 40 ⌝ }
-{
-    Vector3 {
-        x: args[i],
-        y: args[i + 1],
-        z: args[i + 2],
     }
 }
 
@@ -65,27 +55,6 @@ fn complex_at(args: &[f64; 40], i: usize) -> Complex
     }
 }
 
-fn put(out: &mut [u64; 23], i: usize, x: f64)
-    requires { ⌜ i + 1 ≤ 23 ⌝ }
-{
-    out[i] = cases::pattern(x);
-}
-
-fn put_two(out: &mut [u64; 23], i: usize, x: f64, y: f64)
-    requires { ⌜ i + 2 ≤ 23 ⌝ }
-{
-    put(out, i, x);
-    put(out, i + 1, y);
-}
-
-fn put_vector(out: &mut [u64; 23], i: usize, v: Vector3)
-    requires { ⌜ i + 3 ≤ 23 ⌝ }
-{
-    put(out, i, v.x);
-    put(out, i + 1, v.y);
-    put(out, i + 2, v.z);
-}
-
 fn put_vector5(out: &mut [u64; 23], v: Vector5) {
     put(out, 0, v.a);
     put(out, 1, v.b);
@@ -107,12 +76,6 @@ fn put_roots(out: &mut [u64; 23], found: Roots) {
     put_complex(out, 3, slots[1]);
     put_complex(out, 5, slots[2]);
     put_complex(out, 7, slots[3]);
-}
-
-fn put_pair(out: &mut [u64; 23], i: usize, p: Pair)
-    requires { ⌜ i + 2 ≤ 23 ⌝ }
-{
-    put_two(out, i, p.first, p.second);
 }
 
 // Row i of Q from its columns.
@@ -193,18 +156,10 @@ fn solve_two_ellipse_numeric(args: &[f64; 40], out: &mut [u64; 23]) {
         vector2(args, 6),
         matrix2(args, 8),
     );
-    let all = set.get_all();
-    let slots = all.slots;
-    out[0] = all.count as u64;
-    put_pair(out, 1, slots[0]);
-    put_pair(out, 3, slots[1]);
-    put_pair(out, 5, slots[2]);
-    put_pair(out, 7, slots[3]);
+    put_pairs(out, set);
 }
 
-// The results of function id go to the first words of out. A number that no function has writes
-// nothing.
-pub fn call(id: u64, args: &[f64; 40], out: &mut [u64; 23]) {
+pub fn polynomial(id: u64, args: &[f64; 40], out: &mut [u64; 23]) {
     match id {
         0 => cone_polynomials(args, out),
         1 => put_vector(out, 0, polynomial::vec_self_convolve_2(vector2(args, 0))),
