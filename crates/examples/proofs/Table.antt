@@ -1,10 +1,11 @@
 -- Every row of the table, by computing the definitions. Assumes nothing.
 use mathlib.Core.Path.{_≡_, refl}
 use mathlib.Core.List.{List, [], _∷_}
+use mathlib.Core.Bool.{true, false}
 use Prim.Native.Nat.{ℕ}
 use lib.IntN.{pos, negsuc}
 use lib.Ieee.{binary64, add, sub, mul, div, neg, rem, lt, eq, isNan, ofInt, ofBits, toBits}
-use Rattle.float.specs.Num.{whole, nought, two, pi}
+use Rattle.float.specs.Num.{whole, nought, two, pi, frac-pi-2}
 use Rattle.float.specs.Root.{sqrt}
 use Rattle.float.specs.Sine.{sin, cos}
 use Rattle.float.specs.Arctangent.{atan2}
@@ -14,7 +15,11 @@ use Rattle.polynomial.specs.Convolution.{vec-self-convolve-2, vec-self-convolve
 use Rattle.polynomial.specs.Triangular.{solve-lower-triangular-system-2x2}
 use Rattle.polynomial.specs.Quadratic.{solve-quadratic-roots}
 use Rattle.polynomial.specs.Roots.{roots}
-use Rattle.examples.specs.KnownResults.{KnownResults, num, vector-2, vector-3, vector-5, matrix-2, quadratic}
+use Rattle.linear.specs.Vector.{norm}
+use Rattle.solutionset.specs.declared.SolutionSet2.the-variants.{One, Two}
+use Rattle.subproblems.specs.Subproblem1.{subproblem1}
+use Rattle.subproblems.specs.Subproblem4.{subproblem4}
+use Rattle.examples.specs.KnownResults.{KnownResults, num, x-axis, y-axis, z-axis, vector-2, vector-3, vector-5, matrix-2, quadratic}
 
 self-convolve-2 : vec-self-convolve-2 (vector-2 1 2) ≡ vector-3 1 4 4
 unfolding vec-self-convolve-2 mul ofInt ofBits
@@ -50,6 +55,18 @@ inverse-wrap-to-pi-at-pi : inverse-wrap-to-pi pi ≡ pi
 unfolding inverse-wrap-to-pi wrap-to-pi rem-euclid-tau add sub neg rem lt eq ofBits
 inverse-wrap-to-pi-at-pi = refl
 
+quarter-turn : subproblem1 x-axis y-axis z-axis ≡ record { theta = frac-pi-2; «is_ls» = false }
+unfolding subproblem1 norm sqrt atan2 add sub mul div neg lt eq isNan ofInt ofBits
+quarter-turn = refl
+
+touching : subproblem4 x-axis x-axis z-axis (num 1) ≡ record { set = One nought; «is_ls» = true }
+unfolding subproblem4 sqrt atan2 add sub mul div neg lt eq isNan ofInt ofBits
+touching = refl
+
+crossing : subproblem4 x-axis x-axis z-axis nought ≡ record { set = Two frac-pi-2 (neg frac-pi-2); «is_ls» = false }
+unfolding subproblem4 sqrt atan2 add sub mul div neg lt eq isNan ofInt ofBits
+crossing = refl
+
 sqrt-of-two : toBits binary64 (sqrt two) ≡ 0x3ff6_a09e_667f_3bcd
 unfolding sqrt ofBits toBits
 sqrt-of-two = refl
@@ -65,5 +82,8 @@ known-results =
       quadratic-none = quadratic-none;
       auxiliary-wrap-to-pi-at-pi = auxiliary-wrap-to-pi-at-pi;
       inverse-wrap-to-pi-at-pi = inverse-wrap-to-pi-at-pi;
+      quarter-turn = quarter-turn;
+      touching = touching;
+      crossing = crossing;
       sqrt-of-two = sqrt-of-two;
     }

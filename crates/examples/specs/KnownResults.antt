@@ -1,10 +1,11 @@
 -- Document 01, "Known results, marked for proof": one table, a row for each result. A row speaks of the definitions that the functions are proved equal to.
 use mathlib.Core.Path.{_≡_}
 use mathlib.Core.List.{List, [], _∷_}
+use mathlib.Core.Bool.{true, false}
 use Prim.Native.Nat.{ℕ}
 use lib.IntN.{ℤ, pos, negsuc}
 use lib.Ieee.{Float, binary64, neg, toBits}
-use Rattle.float.specs.Num.{whole, nought, two, pi}
+use Rattle.float.specs.Num.{whole, nought, two, pi, frac-pi-2}
 use Rattle.float.specs.Root.{sqrt}
 use Rattle.float.specs.Turn.{wrap-to-pi, inverse-wrap-to-pi}
 use Rattle.linear.specs.declared.Vector3.{Vector3}
@@ -17,6 +18,11 @@ use Rattle.polynomial.specs.declared.Vector2.{Vector2}
 use Rattle.polynomial.specs.declared.Vector5.{Vector5}
 use Rattle.polynomial.specs.declared.Matrix2.{Matrix2}
 use Rattle.polynomial.specs.declared.Quadratic.{Quadratic}
+use Rattle.solutionset.specs.declared.SolutionSet2.the-variants.{One, Two}
+use Rattle.subproblems.specs.Subproblem1.{subproblem1}
+use Rattle.subproblems.specs.Subproblem4.{subproblem4}
+use Rattle.subproblems.specs.declared.Solved1.{Solved1}
+use Rattle.subproblems.specs.declared.Solved2.{Solved2}
 
 -- ---- short names for the numbers of the table
 abbrev pub num : ℕ → Float
@@ -41,6 +47,15 @@ real x = record { re = x; im = nought }
 abbrev pub quadratic : Float → Float → Float → Quadratic
 quadratic a b c = record { a = real a; b = real b; c = real c }
 
+abbrev pub x-axis : Vector3
+x-axis = vector-3 1 0 0
+
+abbrev pub y-axis : Vector3
+y-axis = vector-3 0 1 0
+
+abbrev pub z-axis : Vector3
+z-axis = vector-3 0 0 1
+
 pub record KnownResults : Type 0 where
   -- "vec_self_convolve_2(1,2) = (1,4,4)."
   pub self-convolve-2 : vec-self-convolve-2 (vector-2 1 2) ≡ vector-3 1 4 4
@@ -59,5 +74,10 @@ pub record KnownResults : Type 0 where
   -- "The two wrap_to_pi at PI: -PI (auxiliary), PI (inverse)."
   pub auxiliary-wrap-to-pi-at-pi : wrap-to-pi pi ≡ neg pi
   pub inverse-wrap-to-pi-at-pi : inverse-wrap-to-pi pi ≡ pi
+  -- "subproblem1(x axis, y axis, about z): FRAC_PI_2, unflagged."
+  pub quarter-turn : subproblem1 x-axis y-axis z-axis ≡ record { theta = frac-pi-2; «is_ls» = false }
+  -- "subproblem4(h = x axis, p = x axis, k = z axis): d = 1 gives One 0 flagged, d = 0 gives Two FRAC_PI_2, -FRAC_PI_2 unflagged."
+  pub touching : subproblem4 x-axis x-axis z-axis (num 1) ≡ record { set = One nought; «is_ls» = true }
+  pub crossing : subproblem4 x-axis x-axis z-axis nought ≡ record { set = Two frac-pi-2 (neg frac-pi-2); «is_ls» = false }
   -- "sqrt(2) has bits 3ff6a09e667f3bcd."
   pub sqrt-of-two : toBits binary64 (sqrt two) ≡ 0x3ff6_a09e_667f_3bcd

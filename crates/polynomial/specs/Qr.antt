@@ -14,12 +14,15 @@ use Rattle.polynomial.specs.declared.householder.Reflection4.{Reflection
 use Rattle.polynomial.specs.declared.householder.Reflection3.{Reflection3}
 use Rattle.polynomial.specs.declared.householder.Columns4.{Columns4}
 
+abbrev pub vector-4 : Float → Float → Float → Float → Vector4
+vector-4 x y z w = record { x = x; y = y; z = z; w = w }
+
 -- x with its sign turned where the test says so
 abbrev pub turned : Bool → Float → Float
 turned t x = cond t (neg x) x
 
 abbrev pub turned-4 : Bool → Vector4 → Vector4
-turned-4 t a = record { x = turned t (a .x); y = turned t (a .y); z = turned t (a .z); w = turned t (a .w) }
+turned-4 t a = vector-4 (turned t (a .x)) (turned t (a .y)) (turned t (a .z)) (turned t (a .w))
 
 -- the leading entry x of a part, with the part's norm added: the norm is negative where x is below zero
 abbrev pub lead : Float → Float → Float
@@ -38,7 +41,7 @@ zero-4 a = is-zero (a .x) && is-zero (a .y) && is-zero (a .z) && is-zero (a .w)
 -- the part a gives v and v·v; where it is zero, the reflection is skipped
 unfoldable pub reflection-4 : Vector4 → Reflection4
 reflection-4 a =
-    let v : Vector4 = record { x = lead (a .x) (sqrt (dot-4 a a)); y = a .y; z = a .z; w = a .w } in
+    let v = vector-4 (lead (a .x) (sqrt (dot-4 a a))) (a .y) (a .z) (a .w) in
     record { skip = zero-4 a; v = v; vv = dot-4 v v }
 
 -- the column w, reflected
@@ -47,12 +50,7 @@ reflect-4 m w =
     let v = m .v in
     let factor = two ⊗ dot-4 v w ⊘ m .vv in
     cond (m .skip) w
-    (record {
-      x = w .x ⊖ v .x ⊗ factor;
-      y = w .y ⊖ v .y ⊗ factor;
-      z = w .z ⊖ v .z ⊗ factor;
-      w = w .w ⊖ v .w ⊗ factor;
-    })
+    (vector-4 (w .x ⊖ v .x ⊗ factor) (w .y ⊖ v .y ⊗ factor) (w .z ⊖ v .z ⊗ factor) (w .w ⊖ v .w ⊗ factor))
 
 -- ---- the second column: the part of three, below the first row, which stays
 abbrev pub lower : Vector4 → Vector3
@@ -71,26 +69,40 @@ reflect-3 m w =
     let v = m .v in
     let factor = two ⊗ dot v (lower w) ⊘ m .vv in
     cond (m .skip) w
-    (record { x = w .x; y = w .y ⊖ v .x ⊗ factor; z = w .z ⊖ v .y ⊗ factor; w = w .w ⊖ v .z ⊗ factor })
+    (vector-4 (w .x) (w .y ⊖ v .x ⊗ factor) (w .z ⊖ v .y ⊗ factor) (w .w ⊖ v .z ⊗ factor))
 
 -- ---- the factors of the matrix whose columns are a0 and a1
 -- a column of the identity, by both reflections: a column of Q transposed
 abbrev pub both : Reflection4 → Reflection3 → Vector4 → Vector4
 both m n e = reflect-3 n (reflect-4 m e)
 
--- the columns of Q, before any is negated: row j of Q transposed is column j
-unfoldable pub columns : Reflection4 → Reflection3 → Columns4
-columns m n =
-    let w0 = both m n (record { x = one; y = nought; z = nought; w = nought }) in
-    let w1 = both m n (record { x = nought; y = one; z = nought; w = nought }) in
-    let w2 = both m n (record { x = nought; y = nought; z = one; w = nought }) in
-    let w3 = both m n (record { x = nought; y = nought; z = nought; w = one }) in
+-- the columns of Q transposed: what the identity becomes
+unfoldable pub q-transposed : Reflection4 → Reflection3 → Columns4
+q-transposed m n =
     record {
-      c0 = record { x = w0 .x; y = w1 .x; z = w2 .x; w = w3 .x };
-      c1 = record { x = w0 .y; y = w1 .y; z = w2 .y; w = w3 .y };
-      c2 = record { x = w0 .z; y = w1 .z; z = w2 .z; w = w3 .z };
-      c3 = record { x = w0 .w; y = w1 .w; z = w2 .w; w = w3 .w };
+      c0 = both m n (vector-4 one nought nought nought);
+      c1 = both m n (vector-4 nought one nought nought);
+      c2 = both m n (vector-4 nought nought one nought);
+      c3 = both m n (vector-4 nought nought nought one);
     }
+
+-- column j holds number j of each column
+unfoldable pub transposed : Columns4 → Columns4
+transposed m =
+    let a = m .c0 in
+    let b = m .c1 in
+    let c = m .c2 in
+    let d = m .c3 in
+    record {
+      c0 = vector-4 (a .x) (b .x) (c .x) (d .x);
+      c1 = vector-4 (a .y) (b .y) (c .y) (d .y);
+      c2 = vector-4 (a .z) (b .z) (c .z) (d .z);
+      c3 = vector-4 (a .w) (b .w) (c .w) (d .w);
+    }
+
+-- the columns of Q, before any is negated
+abbrev pub columns : Reflection4 → Reflection3 → Columns4
+columns m n = transposed (q-transposed m n)
 
 -- "A negative diagonal entry of R negates its row of R and its column of Q."
 -- Only three entries of R are read. The one below the diagonal is 0.0, as in nalgebra's r().

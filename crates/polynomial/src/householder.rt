@@ -4,7 +4,7 @@ use crate::QrFactors;
 use crate::Vector4;
 use linear::Vector3;
 ghost use mathlib.Core.Path.{_≡_};
-ghost use Rattle.polynomial.specs.Qr.{turned, turned-4, lead, dot-4, zero-4, reflection-4, reflect-4, lower, zero-3, reflection-3, reflect-3, both, columns, signed, qr};
+ghost use Rattle.polynomial.specs.Qr.{vector-4, turned, turned-4, lead, dot-4, zero-4, reflection-4, reflect-4, lower, zero-3, reflection-3, reflect-3, both, q-transposed, transposed, columns, signed, qr};
 
 // A reflection of vectors of four: by v, and by v·v. It is skipped where its part is zero.
 pub struct Reflection4 {
@@ -25,6 +25,12 @@ pub struct Columns4 {
     pub c1: Vector4,
     pub c2: Vector4,
     pub c3: Vector4,
+}
+
+fn vector_4(x: f64, y: f64, z: f64, w: f64) -> Vector4
+    ensures { λ r. ⌜ r ≡ vector-4 x y z w ⌝ }
+{
+    Vector4 { x, y, z, w }
 }
 
 fn turned(t: bool, x: f64) -> f64
@@ -162,75 +168,37 @@ fn both(m: Reflection4, n: Reflection3, e: Vector4) -> Vector4
     reflect_3(n, reflect_4(m, e))
 }
 
+// The columns of Q transposed: what the identity becomes.
+fn q_transposed(m: Reflection4, n: Reflection3) -> Columns4
+    ensures { λ r. ⌜ r ≡ q-transposed m n ⌝ }
+{
+    Columns4 {
+        c0: both(m, n, vector_4(1.0, 0.0, 0.0, 0.0)),
+        c1: both(m, n, vector_4(0.0, 1.0, 0.0, 0.0)),
+        c2: both(m, n, vector_4(0.0, 0.0, 1.0, 0.0)),
+        c3: both(m, n, vector_4(0.0, 0.0, 0.0, 1.0)),
+    }
+}
+
+fn transposed(m: Columns4) -> Columns4
+    ensures { λ r. ⌜ r ≡ transposed m ⌝ }
+{
+    let a = m.c0;
+    let b = m.c1;
+    let c = m.c2;
+    let d = m.c3;
+    Columns4 {
+        c0: vector_4(a.x, b.x, c.x, d.x),
+        c1: vector_4(a.y, b.y, c.y, d.y),
+        c2: vector_4(a.z, b.z, c.z, d.z),
+        c3: vector_4(a.w, b.w, c.w, d.w),
+    }
+}
+
 fn columns(m: Reflection4, n: Reflection3) -> Columns4
     ensures { λ r. ⌜ r ≡ columns m n ⌝ }
 {
-    let w0 = both(
-        m,
-        n,
-        Vector4 {
-            x: 1.0,
-            y: 0.0,
-            z: 0.0,
-            w: 0.0,
-        },
-    );
-    let w1 = both(
-        m,
-        n,
-        Vector4 {
-            x: 0.0,
-            y: 1.0,
-            z: 0.0,
-            w: 0.0,
-        },
-    );
-    let w2 = both(
-        m,
-        n,
-        Vector4 {
-            x: 0.0,
-            y: 0.0,
-            z: 1.0,
-            w: 0.0,
-        },
-    );
-    let w3 = both(
-        m,
-        n,
-        Vector4 {
-            x: 0.0,
-            y: 0.0,
-            z: 0.0,
-            w: 1.0,
-        },
-    );
-    Columns4 {
-        c0: Vector4 {
-            x: w0.x,
-            y: w1.x,
-            z: w2.x,
-            w: w3.x,
-        },
-        c1: Vector4 {
-            x: w0.y,
-            y: w1.y,
-            z: w2.y,
-            w: w3.y,
-        },
-        c2: Vector4 {
-            x: w0.z,
-            y: w1.z,
-            z: w2.z,
-            w: w3.z,
-        },
-        c3: Vector4 {
-            x: w0.w,
-            y: w1.w,
-            z: w2.w,
-            w: w3.w,
-        },
-    }
+    transposed(q_transposed(m, n))
 }
 
 // The factors, with the diagonal of R made positive.
