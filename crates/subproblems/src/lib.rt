@@ -1,5 +1,5 @@
 // The subproblems of IK-Geo (subproblems/mod.rs): each function equals its definition in specs/ for
-// every f64, and none asks anything of its caller.
+// every f64, and none of the subproblems asks anything of its caller.
 mod reduced;
 mod shared;
 mod sincos;
