@@ -81,32 +81,32 @@ wrist-few kin tolerance r-36 q1 q2 q3 is-ls =
     let t = t5 kin r-36 in
     at-most _ 1 2 _ (wrist-q5-few kin tolerance r-36 q1 q2 q3 (is-ls || t .«is_ls»)) (few2 (t .set))
 
-pub at-q3-few : (r-0t : Matrix) (kin : Kinematics) (tolerance : Float) (p : Vector3) (q1 : Float) (q1-is-ls q3-is-ls : Bool) (q3 : Float)
+pub f1-at-q3-few : (r-0t : Matrix) (kin : Kinematics) (tolerance : Float) (p : Vector3) (q1 : Float) (q1-is-ls q3-is-ls : Bool) (q3 : Float)
     → length (F1.at-q3 r-0t kin tolerance p q1 q1-is-ls q3-is-ls q3) ≤ 2
 unfolding F1.at-q3
-at-q3-few r-0t kin tolerance p q1 q1-is-ls q3-is-ls q3 =
+f1-at-q3-few r-0t kin tolerance p q1 q1-is-ls q3-is-ls q3 =
     let s = F1.q2 kin tolerance p q3 in
     wrist-few kin tolerance (r-36 r-0t kin q1 (s .theta) q3) q1 (s .theta) q3 (q1-is-ls || s .«is_ls» || q3-is-ls)
 
-pub at-q1-few : (r-0t : Matrix) (p-0t : Vector3) (kin : Kinematics) (tolerance : Float) (q1-is-ls : Bool) (q1 : Float)
+pub f1-at-q1-few : (r-0t : Matrix) (p-0t : Vector3) (kin : Kinematics) (tolerance : Float) (q1-is-ls : Bool) (q1 : Float)
     → length (F1.at-q1 r-0t p-0t kin tolerance q1-is-ls q1) ≤ 4
 unfolding F1.at-q1
-at-q1-few r-0t p-0t kin tolerance q1-is-ls q1 =
+f1-at-q1-few r-0t p-0t kin tolerance q1-is-ls q1 =
     let p = F1.p-13 r-0t p-0t kin q1 in
     let t = F1.t3 kin p in
-    at-most _ 2 2 _ (at-q3-few r-0t kin tolerance p q1 q1-is-ls (t .«is_ls»)) (few2 (t .set))
+    at-most _ 2 2 _ (f1-at-q3-few r-0t kin tolerance p q1 q1-is-ls (t .«is_ls»)) (few2 (t .set))
 
 pub spherical-two-parallel-few : (r-0t : Matrix) (p-0t : Vector3) (kin : Kinematics) (tolerance : Float)
     → length (F1.spherical-two-parallel r-0t p-0t kin tolerance) ≤ 8
 unfolding F1.spherical-two-parallel
 spherical-two-parallel-few r-0t p-0t kin tolerance =
     let t = F1.t1 r-0t p-0t kin in
-    at-most _ 4 2 _ (at-q1-few r-0t p-0t kin tolerance (t .«is_ls»)) (few2 (t .set))
+    at-most _ 4 2 _ (f1-at-q1-few r-0t p-0t kin tolerance (t .«is_ls»)) (few2 (t .set))
 
-pub at-q12-few : (r-0t : Matrix) (kin : Kinematics) (tolerance : Float) (q3 : Float) (is-ls : Bool) (q12 : Pair)
+pub f2-at-q12-few : (r-0t : Matrix) (kin : Kinematics) (tolerance : Float) (q3 : Float) (is-ls : Bool) (q12 : Pair)
     → length (F2.at-q12 r-0t kin tolerance q3 is-ls q12) ≤ 2
 unfolding F2.at-q12
-at-q12-few r-0t kin tolerance q3 is-ls q12 =
+f2-at-q12-few r-0t kin tolerance q3 is-ls q12 =
     let q1 = q12 .first in
     let q2 = q12 .second in
     wrist-few kin tolerance (r-36 r-0t kin q1 q2 q3) q1 q2 q3 is-ls
@@ -116,7 +116,7 @@ pub f2-at-q3-few : (r-0t : Matrix) (kin : Kinematics) (tolerance : Float) (p : V
 unfolding F2.at-q3
 f2-at-q3-few r-0t kin tolerance p t3-is-ls q3 =
     let t = F2.t12 kin p q3 in
-    at-most _ 2 2 _ (at-q12-few r-0t kin tolerance q3 (t3-is-ls || t .«is_ls»)) (few-pairs2 (t .set))
+    at-most _ 2 2 _ (f2-at-q12-few r-0t kin tolerance q3 (t3-is-ls || t .«is_ls»)) (few-pairs2 (t .set))
 
 pub spherical-two-intersecting-few : (r-0t : Matrix) (p-0t : Vector3) (kin : Kinematics) (tolerance : Float)
     → length (F2.spherical-two-intersecting r-0t p-0t kin tolerance) ≤ 8
@@ -165,9 +165,9 @@ three-parallel-two-intersecting-few r-06 p-0t kin tolerance =
     let t = F4.theta1 kin p in
     at-most _ 4 2 _ (f4-at-q1-few r-06 kin tolerance p (t .«is_ls»)) (few2 (t .set))
 
-pub at-q123-few : (r-06 : Matrix) (kin : Kinematics) (tolerance : Float) (q123 : Triple) → length (F3.at-q123 r-06 kin tolerance q123) ≤ 2
+pub f3-at-q123-few : (r-06 : Matrix) (kin : Kinematics) (tolerance : Float) (q123 : Triple) → length (F3.at-q123 r-06 kin tolerance q123) ≤ 2
 unfolding F3.at-q123
-at-q123-few r-06 kin tolerance q123 =
+f3-at-q123-few r-06 kin tolerance q123 =
     let q1 = q123 .first in
     let q2 = q123 .second in
     let q3 = q123 .third in
@@ -176,12 +176,12 @@ at-q123-few r-06 kin tolerance q123 =
 pub spherical-few : (r-06 : Matrix) (p-0t : Vector3) (kin : Kinematics) (tolerance : Float) → length (F3.spherical r-06 p-0t kin tolerance) ≤ 8
 unfolding F3.spherical
 spherical-few r-06 p-0t kin tolerance =
-    at-most _ 2 4 _ (at-q123-few r-06 kin tolerance) (few-triples (F3.t123 kin (p-16 r-06 p-0t kin)))
+    at-most _ 2 4 _ (f3-at-q123-few r-06 kin tolerance) (few-triples (F3.t123 kin (p-16 r-06 p-0t kin)))
 
-pub at-q15-few : (r-06 : Matrix) (kin : Kinematics) (tolerance : Float) (p : Vector3) (q15 : Pair)
+pub f5-at-q15-few : (r-06 : Matrix) (kin : Kinematics) (tolerance : Float) (p : Vector3) (q15 : Pair)
     → length (F5.at-q15 r-06 kin tolerance p q15) ≤ 2
 unfolding F5.at-q15
-at-q15-few r-06 kin tolerance p q15 =
+f5-at-q15-few r-06 kin tolerance p q15 =
     let r-01 = rot (kin .h1) (q15 .first) in
     let r-45 = rot (kin .h5) (q15 .second) in
     let t = theta14 r-06 kin tolerance r-01 r-45 in
@@ -194,4 +194,4 @@ pub three-parallel-few : (r-06 : Matrix) (p-0t : Vector3) (kin : Kinematics) (to
 unfolding F5.three-parallel
 three-parallel-few r-06 p-0t kin tolerance =
     let p = p-16 r-06 p-0t kin in
-    at-most _ 2 4 _ (at-q15-few r-06 kin tolerance p) (few-pairs4 (F5.theta15 r-06 kin p))
+    at-most _ 2 4 _ (f5-at-q15-few r-06 kin tolerance p) (few-pairs4 (F5.theta15 r-06 kin p))

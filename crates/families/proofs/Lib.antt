@@ -1,2 +1,3 @@
 pub mod Negated
 pub mod Few
+pub mod AtMost8

@@ -9,6 +9,8 @@ use linear::Vector3;
 use subproblems::Solved1;
 use subproblems::Solved2;
 ghost use mathlib.Core.Path.{_≡_};
+ghost use Rattle.float.specs.Num.{_⊖_};
+ghost use Rattle.float.specs.Turn.{wrap-to-pi};
 ghost use Rattle.linear.specs.Matrix.{apply};
 ghost use Rattle.subproblems.specs.Subproblem1.{subproblem1-within};
 ghost use Rattle.answers.specs.Written.{Wrote};
@@ -26,6 +28,13 @@ fn theta3(kin: Kinematics, d_inner: Vector3) -> Solved2
     ensures { λ r. ⌜ r ≡ theta3 kin «d_inner» ⌝ }
 {
     subproblems::subproblem3(linear::neg(kin.p3), kin.p2, kin.h2, linear::norm(d_inner))
+}
+
+// By the wrap_to_pi of inverse_kinematics/auxiliary.rs: -PI at PI.
+fn q4(theta14: f64, q2: f64, q3: f64) -> f64
+    ensures { λ r. ⌜ r ≡ wrap-to-pi (theta14 ⊖ q2 ⊖ q3) ⌝ }
+{
+    float::wrap_to_pi(theta14 - q2 - q3)
 }
 
 fn elbow_q3(
@@ -56,7 +65,7 @@ fn elbow_q3(
         q1: q1,
         q2: s.theta,
         q3: q3,
-        q4: float::wrap_to_pi(theta14 - s.theta - q3),
+        q4: q4(theta14, s.theta, q3),
         q5: q5,
         q6: q6,
         is_ls: either(is_ls, s.is_ls),

@@ -48,12 +48,12 @@ returns : tie.Need-returns
 returns c =
     let at-put = c .before .before .before .before in
     let at-either = at-put .before .before .before in
-    let at-wrap = at-either .before in
-    let at-q2 = at-wrap .before .before in
+    let at-q4 = at-either .before in
+    let at-q2 = at-q4 .before in
     let at-add = at-q2 .before in
     let at-apply = at-add .before in
     met _ _ _ _ _ _ _ _ _ (at-apply .before .ahead .ensures) (at-apply .apply .ensures) (at-add .add .ensures)
-    (at-q2 .subproblem1-within .ensures) (at-wrap .wrap-to-pi .ensures) (at-either .either .ensures)
+    (at-q2 .subproblem1-within .ensures) (at-q4 .q4 .ensures) (at-either .either .ensures)
     (at-put .put .ensures)
 
 pub elbow-q3-spec : {M : Type 1} → statement M

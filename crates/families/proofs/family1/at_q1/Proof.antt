@@ -17,7 +17,7 @@ use Rattle.answers.proofs.Laws.{by-name}
 use Rattle.answers.proofs.Turns.{Turns, start, again, small-sum, end, angles-kept, flags-kept}
 use Rattle.families.specs.SphericalTwoParallel.{p-13, t3, at-q3, at-q1}
 use Rattle.families.specs.declared.Units.{Units}
-use Rattle.families.proofs.Few.{few-of, at-q3-few}
+use Rattle.families.proofs.Few.{few-of, f1-at-q3-few}
 use Rattle.families.proofs.family1.at_q1.Statement.{statement}
 use Rattle.families.proofs.family1.at_q1.Tie as tie
 
@@ -62,7 +62,7 @@ add-k : tie.Need-add-k Inv-loop μ-loop
 add-k c =
     let called = c .before .before .before .before in
     let turned = called .before .before .before .before .before .before in
-    omega (arith, small-sum _ _ _ 2 (at-q3-few _ _ _ _ _ _ _) (turned .before .loop .inv) (called .at-q3 .ensures))
+    omega (arith, small-sum _ _ _ 2 (f1-at-q3-few _ _ _ _ _ _ _) (turned .before .loop .inv) (called .at-q3 .ensures))
 
 loop-again : tie.Need-loop-again Inv-loop μ-loop
 loop-again c =
@@ -71,7 +71,7 @@ loop-again c =
     let at = on .before in
     let picked = at .before in
     let turned = picked .before in
-    again _ _ _ _ _ (at-q3-few _ _ _ _ _ _ _) (turned .before .loop .inv) (turned .loop-test .taken) (picked .at .ensures)
+    again _ _ _ _ _ (f1-at-q3-few _ _ _ _ _ _ _) (turned .before .loop .inv) (turned .loop-test .taken) (picked .at .ensures)
     (at .rest .ensures) (on .rest2 .ensures)
     (called .at-q3 .ensures)
 

@@ -16,7 +16,7 @@ use Rattle.answers.proofs.Laws.{by-name}
 use Rattle.answers.proofs.Turns.{Turns, start, again, small-sum, end, angles-kept, flags-kept}
 use Rattle.families.specs.SphericalTwoIntersecting.{t12, at-q12, at-q3}
 use Rattle.families.specs.declared.Units.{Units}
-use Rattle.families.proofs.Few.{few-pairs-of, at-q12-few}
+use Rattle.families.proofs.Few.{few-pairs-of, f2-at-q12-few}
 use Rattle.families.proofs.family2.at_q3.Statement.{statement}
 use Rattle.families.proofs.family2.at_q3.Tie as tie
 
@@ -59,7 +59,7 @@ add-k : tie.Need-add-k Inv-loop μ-loop
 add-k c =
     let called = c .before .before .before .before in
     let turned = called .before .before .before .before .before .before in
-    omega (arith, small-sum _ _ _ 2 (at-q12-few _ _ _ _ _) (turned .before .loop .inv) (called .at-q12 .ensures))
+    omega (arith, small-sum _ _ _ 2 (f2-at-q12-few _ _ _ _ _) (turned .before .loop .inv) (called .at-q12 .ensures))
 
 loop-again : tie.Need-loop-again Inv-loop μ-loop
 loop-again c =
@@ -68,7 +68,7 @@ loop-again c =
     let at = on .before in
     let picked = at .before in
     let turned = picked .before in
-    again _ _ _ _ _ (at-q12-few _ _ _ _ _) (turned .before .loop .inv) (turned .loop-test .taken) (picked .at .ensures)
+    again _ _ _ _ _ (f2-at-q12-few _ _ _ _ _) (turned .before .loop .inv) (turned .loop-test .taken) (picked .at .ensures)
     (at .rest .ensures) (on .rest2 .ensures)
     (called .at-q12 .ensures)
 

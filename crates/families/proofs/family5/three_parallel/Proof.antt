@@ -15,7 +15,7 @@ use Rattle.answers.proofs.Laws.{by-name}
 use Rattle.answers.proofs.Turns.{Turns, start, again, small-sum, end, angles-kept, flags-kept}
 use Rattle.families.specs.Place.{p-16}
 use Rattle.families.specs.ThreeParallel.{theta15, at-q15, three-parallel}
-use Rattle.families.proofs.Few.{few-pairs4-of, at-q15-few}
+use Rattle.families.proofs.Few.{few-pairs4-of, f5-at-q15-few}
 use Rattle.families.proofs.family5.three_parallel.Statement.{statement}
 use Rattle.families.proofs.family5.three_parallel.Tie as tie
 
@@ -51,7 +51,7 @@ add-k : tie.Need-add-k Inv-loop μ-loop
 add-k c =
     let called = c .before .before .before .before in
     let turned = called .before .before .before .before .before .before in
-    omega (arith, small-sum _ _ _ 2 (at-q15-few _ _ _ _) (turned .before .loop .inv) (called .at-q15 .ensures))
+    omega (arith, small-sum _ _ _ 2 (f5-at-q15-few _ _ _ _) (turned .before .loop .inv) (called .at-q15 .ensures))
 
 loop-again : tie.Need-loop-again Inv-loop μ-loop
 loop-again c =
@@ -60,7 +60,7 @@ loop-again c =
     let at = on .before in
     let picked = at .before in
     let turned = picked .before in
-    again _ _ _ _ _ (at-q15-few _ _ _ _) (turned .before .loop .inv) (turned .loop-test .taken) (picked .at .ensures)
+    again _ _ _ _ _ (f5-at-q15-few _ _ _ _) (turned .before .loop .inv) (turned .loop-test .taken) (picked .at .ensures)
     (at .rest .ensures) (on .rest2 .ensures)
     (called .at-q15 .ensures)
 
