@@ -27,15 +27,19 @@ pub enum Kind {
     Hostile,
     /// Blocks to refuse.
     Headers,
+    /// An arm that leads its solver into double roots or divisions by zero, and the pose that
+    /// random angles give it.
+    Degenerate,
 }
 
-pub const KINDS: [(&str, Kind); 6] = [
+pub const KINDS: [(&str, Kind); 7] = [
     ("reachable", Kind::Reachable),
     ("unreachable", Kind::Unreachable),
     ("bent", Kind::Bent),
     ("random", Kind::Random),
     ("hostile", Kind::Hostile),
     ("headers", Kind::Headers),
+    ("degenerate", Kind::Degenerate),
 ];
 
 /// One arm and pose.
@@ -78,6 +82,7 @@ fn generator(kind: Kind, family: u64, seed: u64, place: u64) -> Rng {
         Kind::Random => 1,
         Kind::Hostile => 2,
         Kind::Headers => 3,
+        Kind::Degenerate => 4,
     };
     Rng::of(&[seed, stream, family, place])
 }
@@ -92,6 +97,10 @@ pub fn sample(kind: Kind, family: u64, seed: u64, place: u64, n: Option<u64>) ->
         Kind::Bent => bend(&mut sample, rng),
         Kind::Random => randomise(&mut sample, rng),
         Kind::Hostile => make_hostile(&mut sample, rng),
+        Kind::Degenerate => {
+            sample.arm = degenerate(family, rng);
+            sample.pose = pose_of(&sample.arm, &sample.angles);
+        }
     }
     sample
 }

@@ -7,6 +7,7 @@ mod bench;
 mod block;
 mod cases;
 mod complex;
+mod differ;
 mod functions;
 mod generate;
 mod inputs;
@@ -40,10 +41,12 @@ usage: oracle COMMAND
   call NAME                              run one function on each line of hexadecimal arguments
   call --list                            the functions with their argument words
   generate KIND FAMILY SEED COUNT [N]    blocks; KIND is reachable, unreachable, bent, random,
-                                         hostile or headers
+                                         hostile, headers or degenerate
   angles KIND FAMILY SEED COUNT [N]      the angles that made the poses of generate's blocks
-  recover FAMILY SEED COUNT [N]          how many reachable poses have their own angles among
-                                         their answers (n = 200 in family 6)
+  recover KIND FAMILY SEED COUNT [N]     how many poses, reachable or degenerate, have their own
+                                         angles among their answers (n = 200 in family 6)
+  differ FAMILY SEED COUNT [N]           the largest difference between the answers under
+                                         document 01's rules and under the machine's functions
   cases GROUP SEED COUNT                 test records; GROUP is float, linear, complex, polynomial,
                                          subproblems, kinematics or families
   layout                                 the layouts of the test records
@@ -129,9 +132,13 @@ fn command<A: Arith>(line: &CommandLine, output: &mut impl Write) -> Result<(), 
             let request = Generated::parse(kind, family, seed, count, n)?;
             request.write_angles(output)
         }
-        ["recover", family, seed, count, ref n @ ..] => {
-            let request = Generated::parse("reachable", family, seed, count, n)?;
+        ["recover", kind @ ("reachable" | "degenerate"), family, seed, count, ref n @ ..] => {
+            let request = Generated::parse(kind, family, seed, count, n)?;
             told(request.write_recovered::<A>(output))
+        }
+        ["differ", family, seed, count, ref n @ ..] => {
+            let request = Generated::parse("reachable", family, seed, count, n)?;
+            told(request.write_differences(output))
         }
         ["cases", group, seed, count] => {
             let (group, seed, count) = (group_named(group)?, number(seed)?, number(count)?);
@@ -230,7 +237,7 @@ impl Generated {
 
     fn write_angles(&self, output: &mut impl Write) -> Result<(), Failure> {
         use generate::Kind::*;
-        if !matches!(self.kind, Reachable | Unreachable | Bent) {
+        if !matches!(self.kind, Reachable | Unreachable | Bent | Degenerate) {
             return Err("poses of this kind are not made from angles".to_string());
         }
         for place in 0..self.count {
@@ -241,9 +248,34 @@ impl Generated {
         Ok(())
     }
 
+    fn write_differences(&self, output: &mut impl Write) -> io::Result<()> {
+        let n = self.n.unwrap_or(200);
+        let d = differ::differ(self.family, self.seed, self.count, Some(n));
+        let first = d
+            .first_list
+            .map_or("-".to_string(), |place| place.to_string());
+        writeln!(
+            output,
+            "family {} poses {} lists-that-differ {} first {first}",
+            self.family, d.poses, d.lists
+        )?;
+        for (name, class) in [
+            ("regular", d.regular),
+            ("singular", d.singular),
+            ("flagged", d.flagged),
+        ] {
+            writeln!(
+                output,
+                "  {name} answers {} largest {:e} at pose {}",
+                class.answers, class.difference, class.place
+            )?;
+        }
+        Ok(())
+    }
+
     fn write_recovered<A: Arith>(&self, output: &mut impl Write) -> io::Result<()> {
         let n = self.n.unwrap_or(200);
-        let r = recover::recover::<A>(self.family, self.seed, self.count, Some(n));
+        let r = recover::recover::<A>(self.kind, self.family, self.seed, self.count, Some(n));
         writeln!(
             output,
             "family {} poses {} unflagged {} flagged {} missed {} answers {} evals {}",

@@ -48,13 +48,16 @@ fn look<A: Arith>(sample: &Sample, recovered: &mut Recovered) {
     }
 }
 
-pub fn recover<A: Arith>(family: u64, seed: u64, count: u64, n: Option<u64>) -> Recovered {
+pub fn recover<A: Arith>(
+    kind: Kind,
+    family: u64,
+    seed: u64,
+    count: u64,
+    n: Option<u64>,
+) -> Recovered {
     let mut recovered = Recovered::default();
     for place in 0..count {
-        look::<A>(
-            &sample(Kind::Reachable, family, seed, place, n),
-            &mut recovered,
-        );
+        look::<A>(&sample(kind, family, seed, place, n), &mut recovered);
     }
     recovered
 }

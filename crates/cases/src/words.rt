@@ -3,7 +3,7 @@ ghost use mathlib.Core.Path.{_≡_};
 ghost use Prim.Native.Nat.{_+_, _*_, _≤_, _<_};
 ghost use lib.ListN.{length, getD};
 ghost use lib.Ieee.{binary64, ofBits, toBits, nanBits};
-ghost use Rattle.cases.specs.Words.{word, same};
+ghost use Rattle.cases.specs.Words.{word, same, arguments, agree};
 
 fn wide(byte: u8) -> u64
     ensures { λ r. ⌜ (r ≡ byte) × (r < 256) ⌝ }
@@ -53,7 +53,7 @@ fn number(word: u64) -> f64
 }
 
 // The word of a number: of every NaN it is 7ff8000000000000.
-fn pattern(x: f64) -> u64
+pub fn pattern(x: f64) -> u64
     ensures { λ r. ⌜ r ≡ toBits binary64 x ⌝ }
 {
     if x != x {
@@ -86,4 +86,31 @@ pub fn gives(bytes: &[u8], i: usize, x: f64) -> bool
     ensures { λ r. ⌜ r ≡ same (word (now (bytes .entry)) i) (toBits binary64 x) ⌝ }
 {
     same(word(bytes, i), pattern(x))
+}
+
+// The words from i on as arguments.
+pub fn arguments(bytes: &[u8], i: usize, xs: &mut [f64])
+    requires { ⌜ 8 * (i + length (now xs)) ≤ length (now bytes) ⌝ }
+    ensures { λ _. ⌜ now (xs .exit) ≡ arguments (now (bytes .entry)) i (length (now (xs .entry))) 0 (now (xs .entry)) ⌝ }
+{
+    let mut k: usize = 0;
+    while k < xs.len() {
+        xs[k] = argument(bytes, i + k);
+        k += 1;
+    }
+}
+
+// Whether the words from i on are these results.
+pub fn agree(bytes: &[u8], i: usize, results: &[u64]) -> bool
+    requires { ⌜ 8 * (i + length (now results)) ≤ length (now bytes) ⌝ }
+    ensures { λ r. ⌜ r ≡ agree (now (bytes .entry)) i (length (now (results .entry))) 0 (now (results .entry)) ⌝ }
+{
+    let mut k: usize = 0;
+    while k < results.len() {
+        if !same(word(bytes, i + k), results[k]) {
+            return false;
+        }
+        k += 1;
+    }
+    true
 }

@@ -13,3 +13,4 @@ pub mod Own
 pub mod Units
 pub mod Reduction
 pub mod Picked
+pub mod Nan

@@ -1,5 +1,5 @@
 -- The remainder by a whole turn, and the two `wrap_to_pi`.
--- Document 01: "% is exact, with the sign of its first operand; rem_euclid(TAU) is x % TAU, plus TAU if that is below nought."
+-- Document 01: "% is exact, with the sign of its first operand; rem_euclid(TAU) is x % TAU, plus TAU if that is below zero."
 use mathlib.Core.Bool.{cond}
 use lib.Ieee.{Float, binary64, rem, neg, lt, eq}
 use Rattle.float.specs.Num.{_⊕_, _⊖_, nought, pi, tau}

@@ -1,23 +1,13 @@
 -- A NaN is what differs from itself; then by which part is the larger.
-use mathlib.Core.Path.{_≡_, refl, sym, subst}
+use mathlib.Core.Path.{_≡_}
 use mathlib.Core.Bool.{true, false}
-use lib.Dec.{T}
-use lib.Ieee.{Float, nan, inf, fin, ne, lt, isNan}
-use lib.Ieee.Compare.{differs-from-itself, nan-differs}
+use lib.Ieee.{Float, ne, lt, isNan}
 use Rattle.float.specs.Number.{abs}
+use Rattle.float.proofs.Nan.{none, number}
 use Rattle.complex.specs.Complex.{modulus, absᶜ}
 use Rattle.complex.specs.declared.Complex.{Complex}
 use Rattle.complex.proofs.abs.Statement.{statement}
 use Rattle.complex.proofs.abs.Tie as tie
-
-none : (x : Float) → ne x x ≡ true → x ≡ nan
-none x h = differs-from-itself x (subst T (sym h) tt)
-
-number : (x : Float) → ne x x ≡ false → isNan x ≡ false
-unfolding isNan
-number nan h = cc nan-differs
-number (inf s) h = refl
-number (fin s m e) h = refl
 
 first-nan : (z : Complex) → ne (z .re) (z .re) ≡ true → z .re ≡ absᶜ z
 unfolding absᶜ isNan

@@ -1,0 +1,9 @@
+pub mod Units
+pub mod Place
+pub mod Wrist
+pub mod Elbow
+pub mod SphericalTwoParallel
+pub mod SphericalTwoIntersecting
+pub mod Spherical
+pub mod ThreeParallelTwoIntersecting
+pub mod ThreeParallel

@@ -1,0 +1,2 @@
+pub mod Kinematics
+pub mod Pose

@@ -1,0 +1,5 @@
+pub mod Commute
+pub mod NumberOrder
+pub mod Sorting
+pub mod Passes
+pub mod InSlots
