@@ -2,6 +2,7 @@
 use Prim.Native.Nat.{_≤_}
 use mathlib.Core.Path.{_≡_, ap, _∙_}
 use mathlib.Core.List.{map}
+use lib.Ieee.{Float}
 use lib.ListN.{take}
 use Rattle.float.specs.Num.{nought}
 use Rattle.solutionset.specs.PairSet4.{from-vec}
@@ -23,11 +24,11 @@ use Rattle.polynomial.proofs.Points.{of-used}
 use Rattle.polynomial.proofs.ellipse.solve_two_ellipse_numeric.Statement.{statement}
 use Rattle.polynomial.proofs.ellipse.solve_two_ellipse_numeric.Tie as tie
 
-fits : (q : Quartic) {found : Roots} {reals : Slots4}
+fits : (tolerance : Float) (q : Quartic) {found : Roots} {reals : Slots4}
     → found ≡ solve-quartic-roots q
-    → reals ≡ slots (real-parts epsilon (roots found))
+    → reals ≡ slots (real-parts tolerance (roots found))
     → reals .count ≤ 4
-fits q e f = rw (f, e) (few-real epsilon q)
+fits tolerance q e f = rw (f, e) (few-real tolerance q)
 
 module _ (xm1 : Vector2) (xn1 : Matrix2) (xm2 : Vector2) (xn2 : Matrix2) where
   met : {g h : Conic} {v : Vector5} {q : Quartic} {found : Roots} {reals : Slots4} {r : PairSet4}
