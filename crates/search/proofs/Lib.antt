@@ -1,0 +1,4 @@
+pub mod Count
+pub mod RefineSteps
+pub mod DipSteps
+pub mod States
