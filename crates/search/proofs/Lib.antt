@@ -2,3 +2,4 @@ pub mod Count
 pub mod RefineSteps
 pub mod DipSteps
 pub mod States
+pub mod ScanSteps

@@ -40,6 +40,10 @@ valley v = record { lo = v .lo; hi = v .hi; x1 = v .x1; x2 = v .x2; g1 = v .g1; 
 abbrev pub point : Float → Float → Point
 point x y = record { x = x; y = y }
 
+-- the row of samples that two lists hold
+abbrev pub row : List Float → List Float → ℕ → Point
+row xs ys l = record { x = getD xs l nan; y = getD ys l nan }
+
 -- ---- the lent lists
 
 abbrev pub angle-of : Entry → Float

@@ -4,5 +4,6 @@
 mod dip;
 mod pairs;
 mod refine;
+mod scan;
 
 pub use pairs::Found;

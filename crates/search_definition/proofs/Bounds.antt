@@ -14,7 +14,7 @@ use Rattle.float.specs.Number.{is-finite, abs}
 use Rattle.search_definition.specs.Found.{Part, Place, Origin, Out, nothing, asks, _then_, pairs, Asked, before, after, crossing, inner, last, first, grid, edge}
 use Rattle.search_definition.specs.Refine.{negative, Bracket, bracket, next, near, if-near, if-value, reached, if-next, refine-turn, refine-from, refine-bracket}
 use Rattle.search_definition.specs.Dip.{Valley, sign-of, best, if-below, probe, itself, moved, dip-turn, opened, lowest-from, lowest, Point, entry, if-tangent, refined, if-crossed, settled, minimise-dip}
-use Rattle.search_definition.specs.Scan.{touch, alike, crosses, dips, falls-to, falls-back, if-dips, dips-at, if-crosses, item, items, if-last, if-first, last-dip, first-dip, scan-samples}
+use Rattle.search_definition.specs.Scan.{touch, alike, crosses, dips, falls-to, falls-back, if-dip, inner-dip, if-crosses, item, items, last-dip, first-dip, scan-samples}
 use Rattle.search_definition.specs.Search.{Gap, keep, turned, halved, bisect, subsamples, edge-row, row-at, scan-row, edge-from, if-alike, edge-at, edges, runs, of-component, angles, sample, search-1d-bracketed}
 use Rattle.search_definition.proofs.Floats.{lt-not-le}
 use Rattle.search_definition.proofs.Turns.{Once-asked, run-asks}
@@ -171,42 +171,38 @@ falls-not-rises : (p q : Point) → Blocked p q → falls-to p q ≡ false
 unfolding falls-to
 falls-not-rises p q b = rw (lt-not-le (abs (p .y)) (abs (q .y)) (b .rises), and-false, and-false)
 
-module _ (f : Float → Float) (o : Place → Origin) (P : ℕ → Point) where
-  last-two : (l : ℕ) (b : Bool) → Slots 2 (if-last f o P b l)
-  unfolding if-last
-  last-two l true = dip-held f (λ (h : Part). o (last l h)) (P l) (P (suc l))
-  last-two l false = none 2
+if-dip-slots : (f : Float → Float) (b : Bool) (o : Part → Origin) (p q : Point) → Slots 2 (if-dip f b o p q)
+unfolding if-dip
+if-dip-slots f true o p q = dip-held f o p q
+if-dip-slots f false o p q = none 2
 
+module _ (f : Float → Float) (o : Place → Origin) (P : ℕ → Point) where
   last-none : (l : ℕ) → falls-to (P l) (P (suc l)) ≡ false → Slots 0 (last-dip f o P l)
-  unfolding last-dip if-last
+  unfolding last-dip if-dip
   last-none l e = rw e (none 0)
 
   last-slots : (l : ℕ) → Slots 2 (last-dip f o P l)
   unfolding last-dip
-  last-slots l = last-two l (falls-to (P l) (P (suc l)))
+  last-slots l = if-dip-slots f (falls-to (P l) (P (suc l))) (λ (h : Part). o (last l h)) (P l) (P (suc l))
 
   first-slots : (l : ℕ) → Slots 2 (first-dip f o P l)
-  unfolding first-dip if-first
-  first-slots l = go (falls-back (P l) (P (suc l)))
-    where
-      go : (b : Bool) → Slots 2 (if-first f o P b l)
-      go true = dip-held f (λ (h : Part). o (first l h)) (P l) (P (suc l))
-      go false = none 2
+  unfolding first-dip
+  first-slots l = if-dip-slots f (falls-back (P l) (P (suc l))) (λ (h : Part). o (first l h)) (P l) (P (suc l))
 
   item-crossed : (c l : ℕ) → crosses (P l) (P (suc l)) ≡ true → Slots 1 (item f o P c l)
   unfolding item if-crosses
   item-crossed c l e = rw e (wider 1 69 _ (omega arith) (omega arith) (refined-held f (o (crossing l)) (P l) (P (suc l))))
 
   item-end : (l : ℕ) → crosses (P l) (P (suc l)) ≡ false → Slots 0 (item f o P zero l)
-  unfolding item if-crosses dips-at
+  unfolding item if-crosses inner-dip
   item-end l e = rw e (none 0)
 
   item-dips : (c l : ℕ) → crosses (P l) (P (suc l)) ≡ false → dips (P l) (P (suc l)) (P (suc (suc l))) ≡ true → Slots 2 (item f o P (suc c) l)
-  unfolding item if-crosses dips-at if-dips
+  unfolding item if-crosses inner-dip if-dip
   item-dips c l e d = rw (e, d) (dip-held f (λ (h : Part). o (inner (suc l) h)) (P l) (P (suc (suc l))))
 
   item-quiet : (c l : ℕ) → crosses (P l) (P (suc l)) ≡ false → dips (P l) (P (suc l)) (P (suc (suc l))) ≡ false → Slots 0 (item f o P (suc c) l)
-  unfolding item if-crosses dips-at if-dips
+  unfolding item if-crosses inner-dip if-dip
   item-quiet c l e d = rw (e, d) (none 0)
 
   -- c + 2 samples from l on, and the last dip: at most c + 2 slots, and one less where nothing is found between the first two

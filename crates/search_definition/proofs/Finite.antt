@@ -14,7 +14,7 @@ use Rattle.float.specs.Number.{is-finite}
 use Rattle.search_definition.specs.Found.{Part, Place, Origin, component, Entry, Out, _then_, only, before, after, crossing, inner, last, first, grid, edge}
 use Rattle.search_definition.specs.Refine.{negative, Bracket, bracket, next, near, narrowed, if-near, if-value, reached, if-next, refine-turn, refine-from, refine-bracket}
 use Rattle.search_definition.specs.Dip.{Valley, left-of, right-of, sign-of, bettered, best, if-below, probe, itself, depth, moved, dip-turn, opened, lowest-from, lowest, Point, entry, if-tangent, refined, if-crossed, settled, minimise-dip}
-use Rattle.search_definition.specs.Scan.{crosses, dips, falls-to, falls-back, if-dips, dips-at, if-crosses, item, items, if-last, if-first, last-dip, first-dip, scan-samples}
+use Rattle.search_definition.specs.Scan.{crosses, if-dip, inner-dip, if-crosses, item, items, last-dip, first-dip, scan-samples}
 use Rattle.search_definition.specs.Search.{Gap, mid, if-inside, keep, turned, halved, bisect, subsample, subsamples, edge-row, row-at, if-first-inside, scan-row, edge-from, if-alike, edge-at, edges, runs, of-component, sample, search-1d-bracketed}
 use Rattle.search_definition.proofs.Turns.{Keeping, run-keeps}
 
@@ -188,24 +188,24 @@ module _ (f : Float → Float) (Q : Entry → Type 0) where
           (refined-all (o after) m q (depth-below f (sign-of (p .y)) (v .best-x) (rw (← t .bestly) e)) (λ x d w. k after x w))
       crossed false e = tangent (is-finite (v .best-g)) refl
 
+  if-dip-all : (b : Bool) (o : Part → Origin) (p q : Point) → Has f (p .x) → ((h : Part) (x : Float) → Has f x → Here (o h) x) → All (if-dip f b o p q)
+  unfolding if-dip
+  if-dip-all true o p q h k = dip-all o p q h k
+  if-dip-all false o p q h k = tt
+
   module _ (o : Place → Origin) (P : ℕ → Point)
       (at-crossing : (l : ℕ) (x : Float) → x ≡ refine-bracket f (P l .x) (P (suc l) .x) (P l .y) (P (suc l) .y) .value → Has f x → Here (o (crossing l)) x)
       (at-inner : (l : ℕ) (h : Part) (x : Float) → Has f x → Here (o (inner l h)) x)
       (at-last : (l : ℕ) (h : Part) (x : Float) → Has f x → Here (o (last l h)) x)
       (at-first : (l : ℕ) (h : Part) (x : Float) → Has f x → Here (o (first l h)) x) where
     item-all : (c l : ℕ) → Has f (P l .x) → All (item f o P c l)
-    unfolding item if-crosses dips-at if-dips
+    unfolding item if-crosses inner-dip
     item-all c l h = go c (crosses (P l) (P (suc l)))
       where
-        dipped : (b : Bool) → All (if-dips f o P b l)
-        dipped true = dip-all (λ (q : Part). o (inner (suc l) q)) (P l) (P (suc (suc l))) h (at-inner (suc l))
-        dipped false = tt
-
         go : (c : ℕ) (b : Bool) → All (if-crosses f o P b c l)
-        go zero true = refined-all (o (crossing l)) (P l) (P (suc l)) h (at-crossing l)
+        go c true = refined-all (o (crossing l)) (P l) (P (suc l)) h (at-crossing l)
         go zero false = tt
-        go (suc c) true = refined-all (o (crossing l)) (P l) (P (suc l)) h (at-crossing l)
-        go (suc c) false = dipped (dips (P l) (P (suc l)) (P (suc (suc l))))
+        go (suc c) false = if-dip-all _ (λ (q : Part). o (inner (suc l) q)) (P l) (P (suc (suc l))) h (at-inner (suc l))
 
     items-all : (c l : ℕ) → ((j : ℕ) → l ≤ j → j < l + c → Has f (P j .x)) → All (items f o P c l)
     unfolding items
@@ -214,20 +214,12 @@ module _ (f : Float → Float) (Q : Entry → Type 0) where
         join (item f o P c l) (items f o P c (suc l)) (item-all c l (h l (omega arith) (omega arith))) (items-all c (suc l) (λ j a b. h j (omega arith) (omega arith)))
 
     last-all : (l : ℕ) → Has f (P l .x) → All (last-dip f o P l)
-    unfolding last-dip if-last
-    last-all l h = go (falls-to (P l) (P (suc l)))
-      where
-        go : (b : Bool) → All (if-last f o P b l)
-        go true = dip-all (λ (q : Part). o (last l q)) (P l) (P (suc l)) h (at-last l)
-        go false = tt
+    unfolding last-dip
+    last-all l h = if-dip-all _ (λ (q : Part). o (last l q)) (P l) (P (suc l)) h (at-last l)
 
     first-all : (l : ℕ) → Has f (P l .x) → All (first-dip f o P l)
-    unfolding first-dip if-first
-    first-all l h = go (falls-back (P l) (P (suc l)))
-      where
-        go : (b : Bool) → All (if-first f o P b l)
-        go true = dip-all (λ (q : Part). o (first l q)) (P l) (P (suc l)) h (at-first l)
-        go false = tt
+    unfolding first-dip
+    first-all l h = if-dip-all _ (λ (q : Part). o (first l q)) (P l) (P (suc l)) h (at-first l)
 
     scan-all : (s m : ℕ) → ((j : ℕ) → s ≤ j → j < s + m → Has f (P j .x)) → All (scan-samples f o P s m)
     unfolding scan-samples

@@ -32,19 +32,21 @@ falls-to p q = alike p q && (lt (abs (q .y)) touch && le (abs (q .y)) (abs (p .y
 unfoldable pub falls-back : Point → Point → Bool
 falls-back p q = alike p q && (lt (abs (p .y)) touch && le (abs (p .y)) (abs (q .y)))
 
-module _ (f : Float → Float) (o : Place → Origin) (P : ℕ → Point) where
-  unfoldable pub if-dips : Bool → ℕ → Out
-  if-dips true l = minimise-dip f (λ (h : Part). o (inner (suc l) h)) (P l) (P (suc (suc l)))
-  if-dips false l = nothing
+-- a dip, where the test held
+unfoldable pub if-dip : (Float → Float) → Bool → (Part → Origin) → Point → Point → Out
+if-dip f true o p q = minimise-dip f o p q
+if-dip f false o p q = nothing
 
-  -- the first number is how many samples follow the right end
-  unfoldable pub dips-at : ℕ → ℕ → Out
-  dips-at zero l = nothing
-  dips-at (suc c) l = if-dips (dips (P l) (P (suc l)) (P (suc (suc l)))) l
+module _ (f : Float → Float) (o : Place → Origin) (P : ℕ → Point) where
+  -- a dip about the sample l + 1, where c samples follow it
+  unfoldable pub inner-dip : ℕ → ℕ → Out
+  inner-dip zero l = nothing
+  inner-dip (suc c) l =
+      if-dip f (dips (P l) (P (suc l)) (P (suc (suc l)))) (λ (h : Part). o (inner (suc l) h)) (P l) (P (suc (suc l)))
 
   unfoldable pub if-crosses : Bool → ℕ → ℕ → Out
   if-crosses true c l = refined f (o (crossing l)) (P l) (P (suc l))
-  if-crosses false c l = dips-at c l
+  if-crosses false c l = inner-dip c l
 
   -- what is found between the samples l and l + 1, behind which c more follow
   unfoldable pub item : ℕ → ℕ → Out
@@ -55,19 +57,11 @@ module _ (f : Float → Float) (o : Place → Origin) (P : ℕ → Point) where
   items zero l = nothing
   items (suc c) l = item c l then items c (suc l)
 
-  unfoldable pub if-last : Bool → ℕ → Out
-  if-last true l = minimise-dip f (λ (h : Part). o (last l h)) (P l) (P (suc l))
-  if-last false l = nothing
-
-  unfoldable pub if-first : Bool → ℕ → Out
-  if-first true l = minimise-dip f (λ (h : Part). o (first l h)) (P l) (P (suc l))
-  if-first false l = nothing
-
   unfoldable pub last-dip : ℕ → Out
-  last-dip l = if-last (falls-to (P l) (P (suc l))) l
+  last-dip l = if-dip f (falls-to (P l) (P (suc l))) (λ (h : Part). o (last l h)) (P l) (P (suc l))
 
   unfoldable pub first-dip : ℕ → Out
-  first-dip l = if-first (falls-back (P l) (P (suc l))) l
+  first-dip l = if-dip f (falls-back (P l) (P (suc l))) (λ (h : Part). o (first l h)) (P l) (P (suc l))
 
   -- m samples from s on. Fewer than two give nothing.
   unfoldable pub scan-samples : ℕ → ℕ → Out
