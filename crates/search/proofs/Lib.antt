@@ -3,3 +3,5 @@ pub mod RefineSteps
 pub mod DipSteps
 pub mod States
 pub mod ScanSteps
+pub mod Rows
+pub mod EdgeSteps

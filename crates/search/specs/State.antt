@@ -8,7 +8,9 @@ use lib.Ieee.{Float, nan}
 use Rattle.search_definition.specs.Found.{Entry, Out, Asked, component}
 use Rattle.search_definition.specs.Dip as Dip
 use Rattle.search_definition.specs.Dip.{Point}
+use Rattle.search_definition.specs.Search as Search
 use Rattle.search.specs.declared.dip.Valley as DeclaredValley
+use Rattle.search.specs.declared.edge.Gap as DeclaredGap
 use Rattle.search.specs.declared.pairs.Found as DeclaredFound
 
 -- ---- values with a count
@@ -40,9 +42,17 @@ valley v = record { lo = v .lo; hi = v .hi; x1 = v .x1; x2 = v .x2; g1 = v .g1; 
 abbrev pub point : Float → Float → Point
 point x y = record { x = x; y = y }
 
+abbrev pub gap : DeclaredGap.Gap → Search.Gap
+gap g = record { inside = point (g .x) (g .y); outside = g .out }
+
 -- the row of samples that two lists hold
 abbrev pub row : List Float → List Float → ℕ → Point
 row xs ys l = record { x = getD xs l nan; y = getD ys l nan }
+
+-- the first m points of a row
+unfoldable pub firsts : (ℕ → Point) → ℕ → List Point
+firsts P zero = []
+firsts P (suc m) = firsts P m ++ (P m ∷ [])
 
 -- ---- the lent lists
 
@@ -58,8 +68,11 @@ pub record State : Type 0 where
   pub pairs : ℕ
   pub evals : ℕ
 
+abbrev pub held : List Float → List ℕ → ℕ → ℕ → State
+held q c p n = record { angles = q; components = c; pairs = p; evals = n }
+
 abbrev pub state : List Float → List ℕ → DeclaredFound.Found → State
-state q c f = record { angles = q; components = c; pairs = f .pairs; evals = f .evals }
+state q c f = held q c (f .pairs) (f .evals)
 
 -- The state after a part of the search: its pairs are written from the place on, as far as the lists have room, and the two counts go on by all of them.
 unfoldable pub afterwards : State → Out → State

@@ -2,6 +2,7 @@
 // Each function equals its definition in the crate search_definition: in the pairs, in their order, and in
 // the number of evaluations. A count goes up by one at each call of the error.
 mod dip;
+mod edge;
 mod pairs;
 mod refine;
 mod scan;

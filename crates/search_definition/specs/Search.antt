@@ -61,11 +61,17 @@ module _ (f : Float → Float) where
       let r = subsamples lo x c (suc j) in
       record { value = keep (is-finite (p .y)) p (r .value); asked = p .x ∷ r .asked }
 
-  -- from the branch's end e to the grid's sample p inside it, in the order of the angles: 7 evaluations
+  -- the branch's end e, 7 samples towards the grid's sample p inside the branch, and p
+  unfoldable pub edge-points : Point → Point → Asked (List Point)
+  edge-points e p =
+      let r = subsamples (e .x) (p .x) 7 1 in
+      record { value = e ∷ (r .value ++ (p ∷ [])); asked = r .asked }
+
+  -- the same in the order of the angles
   unfoldable pub edge-row : Point → Point → Asked (List Point)
   edge-row e p =
-      let r = subsamples (e .x) (p .x) 7 1 in
-      record { value = turned (lt (p .x) (e .x)) (e ∷ (r .value ++ (p ∷ []))); asked = r .asked }
+      let r = edge-points e p in
+      record { value = turned (lt (p .x) (e .x)) (r .value); asked = r .asked }
 
 -- what stands at an index of a row that is a list
 unfoldable pub row-at : List Point → ℕ → Point
