@@ -5,3 +5,4 @@ pub mod States
 pub mod ScanSteps
 pub mod Rows
 pub mod EdgeSteps
+pub mod GridSteps

@@ -3,8 +3,10 @@
 // the number of evaluations. A count goes up by one at each call of the error.
 mod dip;
 mod edge;
+mod grid;
 mod pairs;
 mod refine;
 mod scan;
 
+pub use grid::search_1d_bracketed;
 pub use pairs::Found;
