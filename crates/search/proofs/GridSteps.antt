@@ -14,9 +14,9 @@ use Rattle.search_definition.specs.Scan.{scan-samples}
 use Rattle.search_definition.specs.Search.{edge-at, edges, runs, of-component, angle, angles, sample, search-1d-bracketed}
 use Rattle.search_definition.proofs.Bounds.{of-component-held, angles-length}
 use Rattle.search.specs.State.{State, held, afterwards, point, row}
-use Rattle.search.specs.Searched.{Sampled}
+use Rattle.search.specs.Searched.{Sampled, Gridded, of-components}
 use Rattle.search.proofs.States.{after-both, after-nothing, after-two, spend, after-asks}
-use Rattle.search.proofs.Rows.{component-same}
+use Rattle.search.proofs.Rows.{both, component-same}
 
 -- ---- the runs: of n + 1 samples, s + m are passed, the last m of which are a run
 module _ (f : Float → Float) (i : ℕ) (P : ℕ → Point) (n s : ℕ) where
@@ -102,15 +102,17 @@ few-more f i P n s t e =
 
 -- ---- the whole: err is the error, and the lists hold its samples
 module _ (err : ℕ → Float → Float) (n : ℕ) where
-  pub sampled-component : (i : ℕ) (xs ys : List Float) → Sampled (angle n) (n + 1) xs → Sampled (λ (k : ℕ). err i (angle n k)) (n + 1) ys → of-component (err i) i (row xs ys) n ≡ of-component (err i) i (sample err n i) n
+  sampled-component : (i : ℕ) (xs ys : List Float) → Sampled (angle n) (n + 1) xs → Sampled (λ (k : ℕ). err i (angle n k)) (n + 1) ys → of-component (err i) i (row xs ys) n ≡ of-component (err i) i (sample err n i) n
   unfolding sample
   sampled-component i xs ys a b =
       component-same (err i) i (row xs ys) (sample err n i) n (λ k h. ap₂ point (a k (omega arith)) (b k (omega arith)))
 
   -- m is the count after the grid's samples
-  pub search-done : (q : List Float) (c : List ℕ) {f0 f1 f2 f3 : State} (m : ℕ) → m ≡ n + 1 → f0 ≡ afterwards (held q c 0 m) (of-component (err 0) 0 (sample err n 0) n) → f1 ≡ afterwards f0 (of-component (err 1) 1 (sample err n 1) n) → f2 ≡ afterwards f1 (of-component (err 2) 2 (sample err n 2) n) → f3 ≡ afterwards f2 (of-component (err 3) 3 (sample err n 3) n) → f3 ≡ afterwards (held q c 0 0) (search-1d-bracketed err n)
+  pub search-done : (q : List Float) (c : List ℕ) {t : State} {m : ℕ} (xs y0 y1 y2 y3 : List Float) → m ≡ n + 1 → Gridded err n (n + 1) xs y0 y1 y2 y3 → t ≡ afterwards (held q c 0 m) (of-components err n (row xs y0) (row xs y1) (row xs y2) (row xs y3)) → t ≡ afterwards (held q c 0 0) (search-1d-bracketed err n)
   unfolding search-1d-bracketed
-  search-done q c {f0} {f1} {f2} {f3} m em e0 e1 e2 e3 =
+  search-done q c {t} {m} xs y0 y1 y2 y3 em g e =
       let count : m ≡ 0 + length (angles n (suc n) 0) = omega (arith, em, angles-length n (suc n) 0) in
       let start : held q c 0 m ≡ afterwards (held q c 0 0) (asks (angles n (suc n) 0)) = (λ i. held q c 0 (count i)) ∙ after-asks (held q c 0 0) (angles n (suc n) 0) in
-      after-two (held q c 0 0) _ _ start (after-two (held q c 0 m) _ _ e0 (after-two f0 _ _ e1 (after-two f1 _ _ e2 e3)))
+      let same : of-components err n (row xs y0) (row xs y1) (row xs y2) (row xs y3) ≡ of-components err n (sample err n 0) (sample err n 1) (sample err n 2) (sample err n 3) =
+      both (sampled-component 0 xs y0 (g .angles) (g .first)) (both (sampled-component 1 xs y1 (g .angles) (g .second)) (both (sampled-component 2 xs y2 (g .angles) (g .third)) (sampled-component 3 xs y3 (g .angles) (g .fourth)))) in
+      after-two (held q c 0 0) (asks (angles n (suc n) 0)) _ start (e ∙ ap (afterwards (held q c 0 m)) same)

@@ -6,3 +6,4 @@ pub mod ScanSteps
 pub mod Rows
 pub mod EdgeSteps
 pub mod GridSteps
+pub mod Listed

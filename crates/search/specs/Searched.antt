@@ -9,8 +9,9 @@ use lib.ListN.{length, getD}
 use lib.Seq.{sets}
 use lib.Ieee.{Float, nan, neg}
 use Rattle.float.specs.Num.{_⊕_, _⊗_, whole, pi}
-use Rattle.search_definition.specs.Found.{Out, nothing}
-use Rattle.search_definition.specs.Search.{angle, search-1d-bracketed}
+use Rattle.search_definition.specs.Found.{Out, nothing, _then_}
+use Rattle.search_definition.specs.Dip.{Point}
+use Rattle.search_definition.specs.Search.{angle, of-component, search-1d-bracketed}
 use Rattle.search.specs.State.{angle-of, component-of}
 use Rattle.search.specs.declared.pairs.Found as Declared
 
@@ -29,6 +30,11 @@ pub record Gridded (err : ℕ → Float → Float) (n m : ℕ) (xs y0 y1 y2 y3 :
   pub second : Sampled (λ (k : ℕ). err 1 (angle n k)) m y1
   pub third : Sampled (λ (k : ℕ). err 2 (angle n k)) m y2
   pub fourth : Sampled (λ (k : ℕ). err 3 (angle n k)) m y3
+
+-- the four components over their rows of samples
+abbrev pub of-components : (ℕ → Float → Float) → ℕ → (ℕ → Point) → (ℕ → Point) → (ℕ → Point) → (ℕ → Point) → Out
+of-components err n P0 P1 P2 P3 =
+    of-component (err 0) 0 P0 n then of-component (err 1) 1 P1 n then of-component (err 2) 2 P2 n then of-component (err 3) 3 P3 n
 
 -- The search for n up to 400; beyond that nothing is searched.
 abbrev pub search-within : (ℕ → Float → Float) → ℕ → Out

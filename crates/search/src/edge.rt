@@ -131,14 +131,7 @@ pub fn turn_round(a: &[f64], m: usize, b: &mut [f64])
     }
 }
 
-pub fn scan_edge(
-    given: Given,
-    i: u8,
-    g: Gap,
-    qs: &mut [f64],
-    cs: &mut [u8],
-    pairs: usize,
-) -> Found
+pub fn scan_edge(given: Given, i: u8, g: Gap, qs: &mut [f64], cs: &mut [u8], pairs: usize) -> Found
     requires { ⌜ (i < 4) × (pairs ≤ 800000) × (g .evals ≤ 800000000) ⌝ }
     ensures { λ r. ⌜ ((o : Place → Origin) → ((p : Place) → component (o p) ≡ i) → state (now (qs .exit)) (now (cs .exit)) r ≡ afterwards (held (now (qs .entry)) (now (cs .entry)) pairs (g .evals)) (edge-from (error-at given i) o (gap g))) ⌝ }
 {
@@ -147,7 +140,17 @@ pub fn scan_edge(
     let mut ys = [0.0; 9];
     let lo = e.x;
     let x = g.x;
-    let r = edge_row(given, i as usize, lo, e.y, x, g.y, e.evals, &mut xs, &mut ys);
+    let r = edge_row(
+        given,
+        i as usize,
+        lo,
+        e.y,
+        x,
+        g.y,
+        e.evals,
+        &mut xs,
+        &mut ys,
+    );
     let m = r.len;
     let h = Found {
         pairs,

@@ -15,7 +15,7 @@ ghost use Rattle.search_definition.specs.Search as Search;
 ghost use Rattle.search_definition.specs.Search.{edges, runs, of-component, search-1d-bracketed};
 ghost use Rattle.search_error.specs.Error.{error-at};
 ghost use Rattle.search.specs.State.{row, held, state, afterwards};
-ghost use Rattle.search.specs.Searched.{spaced, Gridded, Searched, search-within};
+ghost use Rattle.search.specs.Searched.{spaced, Gridded, of-components, Searched, search-within};
 
 // A run of finite samples is ended by one that is not finite, or by the grid's end.
 pub fn scan_runs(
@@ -131,6 +131,28 @@ pub fn sample_grid(
     evals
 }
 
+// The components one after the other.
+pub fn search_components(
+    given: Given,
+    n: usize,
+    xs: &[f64],
+    y0: &[f64],
+    y1: &[f64],
+    y2: &[f64],
+    y3: &[f64],
+    qs: &mut [f64],
+    cs: &mut [u8],
+    f: Found,
+) -> Found
+    requires { ⌜ (n < length (now xs)) × (n < length (now y0)) × (n < length (now y1)) × (n < length (now y2)) × (n < length (now y3)) × (n ≤ 400) × (f .pairs ≤ 10000) × (f .evals ≤ 10000000) ⌝ }
+    ensures { λ r. ⌜ state (now (qs .exit)) (now (cs .exit)) r ≡ afterwards (state (now (qs .entry)) (now (cs .entry)) f) (of-components (error-at given) n (row (now (xs .entry)) (now (y0 .entry))) (row (now (xs .entry)) (now (y1 .entry))) (row (now (xs .entry)) (now (y2 .entry))) (row (now (xs .entry)) (now (y3 .entry)))) ⌝ }
+{
+    let f0 = search_component(given, 0, xs, y0, n, qs, cs, f);
+    let f1 = search_component(given, 1, xs, y1, n, qs, cs, f0);
+    let f2 = search_component(given, 2, xs, y2, n, qs, cs, f1);
+    search_component(given, 3, xs, y3, n, qs, cs, f2)
+}
+
 // One array of 401 entries for each component, all infinite at first and filled up to n.
 pub fn search_grid(given: Given, n: usize, qs: &mut [f64], cs: &mut [u8]) -> Found
     requires { ⌜ n ≤ 400 ⌝ }
@@ -144,10 +166,7 @@ pub fn search_grid(given: Given, n: usize, qs: &mut [f64], cs: &mut [u8]) -> Fou
     let mut y3 = [inf; 401];
     let evals = sample_grid(given, n, &mut xs, &mut y0, &mut y1, &mut y2, &mut y3);
     let f = Found { pairs: 0, evals };
-    let f0 = search_component(given, 0, &xs, &y0, n, qs, cs, f);
-    let f1 = search_component(given, 1, &xs, &y1, n, qs, cs, f0);
-    let f2 = search_component(given, 2, &xs, &y2, n, qs, cs, f1);
-    search_component(given, 3, &xs, &y3, n, qs, cs, f2)
+    search_components(given, n, &xs, &y0, &y1, &y2, &y3, qs, cs, f)
 }
 
 // The search over n + 1 samples. The lists have room for every pair if they are 44 * n long. An n above
@@ -156,10 +175,7 @@ pub fn search_1d_bracketed(given: Given, n: usize, qs: &mut [f64], cs: &mut [u8]
     ensures { λ r. ⌜ Searched (search-within (error-at given) n) (now (qs .entry)) (now (cs .entry)) (now (qs .exit)) (now (cs .exit)) r ⌝ }
 {
     if n > 400 {
-        return Found {
-            pairs: 0,
-            evals: 0,
-        };
+        return Found { pairs: 0, evals: 0 };
     }
     search_grid(given, n, qs, cs)
 }

@@ -40,8 +40,8 @@ returns c =
     let l = k .before .before .before .before in
     let a = l .before .before .before .before .args in
     λ o e.
-        dip-two (error-at (a .given) (a .i)) o (point (a .a) (a .fa)) (point (a .b) (a .fb)) (state (now (a .qs)) (now (a .cs)) (a .f)) (l .before .sign-of .ensures) (l .lowest .ensures)
-        (k .before .before .before .if1 .taken) (k .put-refined .ensures (o before) (e before)) (t .put-refined2 .ensures (o after) (e after))
+    dip-two (error-at (a .given) (a .i)) o (point (a .a) (a .fa)) (point (a .b) (a .fb)) (state (now (a .qs)) (now (a .cs)) (a .f)) (l .before .sign-of .ensures) (l .lowest .ensures)
+    (k .before .before .before .if1 .taken) (k .put-refined .ensures (o before) (e before)) (t .put-refined2 .ensures (o after) (e after))
 
 returns-2 : tie.Need-returns-2
 returns-2 c =
@@ -50,8 +50,8 @@ returns-2 c =
     let l = g .before .before in
     let a = l .before .before .before .before .args in
     λ o e.
-        dip-tangent (error-at (a .given) (a .i)) o (point (a .a) (a .fa)) (point (a .b) (a .fb)) (state (now (a .qs)) (now (a .cs)) (a .f)) (l .before .sign-of .ensures) (l .lowest .ensures)
-        (g .is-finite .ensures) (g .before .if1 .left) (t .before .before .before .if2 .taken) (t .put-pair .ensures (o only) (e only))
+    dip-tangent (error-at (a .given) (a .i)) o (point (a .a) (a .fa)) (point (a .b) (a .fb)) (state (now (a .qs)) (now (a .cs)) (a .f)) (l .before .sign-of .ensures) (l .lowest .ensures)
+    (g .is-finite .ensures) (g .before .if1 .left) (t .before .before .before .if2 .taken) (t .put-pair .ensures (o only) (e only))
 
 returns-3 : tie.Need-returns-3
 returns-3 c =
@@ -59,8 +59,8 @@ returns-3 c =
     let l = g .before .before in
     let a = l .before .before .before .before .args in
     λ o e.
-        dip-none (error-at (a .given) (a .i)) o (point (a .a) (a .fa)) (point (a .b) (a .fb)) (state (now (a .qs)) (now (a .cs)) (a .f)) (l .before .sign-of .ensures) (l .lowest .ensures)
-        (g .is-finite .ensures) (g .before .if1 .left) (c .if2 .left)
+    dip-none (error-at (a .given) (a .i)) o (point (a .a) (a .fa)) (point (a .b) (a .fb)) (state (now (a .qs)) (now (a .cs)) (a .f)) (l .before .sign-of .ensures) (l .lowest .ensures)
+    (g .is-finite .ensures) (g .before .if1 .left) (c .if2 .left)
 
 pub minimise-dip-spec : {M : Type 1} → statement M
 minimise-dip-spec =

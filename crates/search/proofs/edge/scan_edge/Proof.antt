@@ -45,8 +45,8 @@ returns c =
     let b = w .before .before .before in
     let a = b .before .before .before .args in
     λ o d.
-        edge-turned (error-at (a .given) (a .i)) o (gap (a .g)) (held (now (a .qs)) (now (a .cs)) (a .pairs) (a .g .evals)) _ (w .edge-row .result .len) (b .bisect .ensures) (w .edge-row .ensures .1) (v .scan-samples .ensures o d) (t .if1 .taken)
-        (turned-row _ _ (w .edge-row .result .len) (λ j h. ap₂ point (x .turn-round .ensures j h) (y .turn-round2 .ensures j h)))
+    edge-turned (error-at (a .given) (a .i)) o (gap (a .g)) (held (now (a .qs)) (now (a .cs)) (a .pairs) (a .g .evals)) _ (w .edge-row .result .len) (b .bisect .ensures) (w .edge-row .ensures .1) (v .scan-samples .ensures o d) (t .if1 .taken)
+    (turned-row _ _ (w .edge-row .result .len) (λ j h. ap₂ point (x .turn-round .ensures j h) (y .turn-round2 .ensures j h)))
 
 scan-samples-requires-2 : tie.Need-scan-samples-requires-2
 scan-samples-requires-2 c κs =
@@ -61,7 +61,7 @@ returns-2 c =
     let b = w .before .before .before in
     let a = b .before .before .before .args in
     λ o d.
-        edge-straight (error-at (a .given) (a .i)) o (gap (a .g)) (held (now (a .qs)) (now (a .cs)) (a .pairs) (a .g .evals)) _ (w .edge-row .result .len) (b .bisect .ensures) (w .edge-row .ensures .1) (v .scan-samples2 .ensures o d) (t .if1 .left) refl
+    edge-straight (error-at (a .given) (a .i)) o (gap (a .g)) (held (now (a .qs)) (now (a .cs)) (a .pairs) (a .g .evals)) _ (w .edge-row .result .len) (b .bisect .ensures) (w .edge-row .ensures .1) (v .scan-samples2 .ensures o d) (t .if1 .left) refl
 
 pub scan-edge-spec : {M : Type 1} → statement M
 scan-edge-spec =

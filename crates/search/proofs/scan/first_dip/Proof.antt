@@ -16,7 +16,7 @@ returns c =
     let t = d .before .before .before in
     let a = t .before .before .before .before .before .before .before .before .before .args in
     λ o e.
-        first-is (error-at (a .given) (a .i)) o (row (now (a .xs)) (now (a .ys))) (a .l) (state (now (a .qs)) (now (a .cs)) (a .f)) (t .falls-back .ensures) (d .dip-if .ensures (λ (h : Part). o (first (a .l) h)) (λ h. e (first (a .l) h)))
+    first-is (error-at (a .given) (a .i)) o (row (now (a .xs)) (now (a .ys))) (a .l) (state (now (a .qs)) (now (a .cs)) (a .f)) (t .falls-back .ensures) (d .dip-if .ensures (λ (h : Part). o (first (a .l) h)) (λ h. e (first (a .l) h)))
 
 pub first-dip-spec : {M : Type 1} → statement M
 first-dip-spec =

@@ -16,7 +16,7 @@ returns c =
     let t = d .before .before .before in
     let a = t .before .before .before .before .before .before .before .before .before .args in
     λ o e.
-        last-is (error-at (a .given) (a .i)) o (row (now (a .xs)) (now (a .ys))) (a .l) (state (now (a .qs)) (now (a .cs)) (a .f)) (t .falls-to .ensures) (d .dip-if .ensures (λ (h : Part). o (last (a .l) h)) (λ h. e (last (a .l) h)))
+    last-is (error-at (a .given) (a .i)) o (row (now (a .xs)) (now (a .ys))) (a .l) (state (now (a .qs)) (now (a .cs)) (a .f)) (t .falls-to .ensures) (d .dip-if .ensures (λ (h : Part). o (last (a .l) h)) (λ h. e (last (a .l) h)))
 
 pub last-dip-spec : {M : Type 1} → statement M
 last-dip-spec =

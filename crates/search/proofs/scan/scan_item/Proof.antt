@@ -18,8 +18,8 @@ returns c =
     let t = d .before .before .before in
     let a = t .before .before .before .before .before .before .before .before .before .before .args in
     λ o e.
-        item-crossing (error-at (a .given) (a .i)) o (row (now (a .xs)) (now (a .ys))) (a .l) (state (now (a .qs)) (now (a .cs)) (a .f)) (a .end - (a .l + 2)) (t .before .crosses .ensures) (t .if1 .taken)
-        (d .put-refined .ensures (o (crossing (a .l))) (e (crossing (a .l))))
+    item-crossing (error-at (a .given) (a .i)) o (row (now (a .xs)) (now (a .ys))) (a .l) (state (now (a .qs)) (now (a .cs)) (a .f)) (a .end - (a .l + 2)) (t .before .crosses .ensures) (t .if1 .taken)
+    (d .put-refined .ensures (o (crossing (a .l))) (e (crossing (a .l))))
 
 returns-2 : tie.Need-returns-2
 unfolding crosses dips alike
@@ -34,8 +34,8 @@ returns-2 c =
     let s = state (now (a .qs)) (now (a .cs)) (a .f) in
     let n = a .end - (a .l + 2) in
     λ o e.
-        item-inner f o P (a .l) s n (w .crosses .ensures) (l .before .if1 .left)
-        (inner-is f o P (a .l) s n {k = a .end - (a .l + 3)} (omega (arith, l .if2 .taken)) (q .dips .ensures) (d .dip-if .ensures (λ (h : Part). o (inner (suc (a .l)) h)) (λ h. e (inner (suc (a .l)) h))))
+    item-inner f o P (a .l) s n (w .crosses .ensures) (l .before .if1 .left)
+    (inner-is f o P (a .l) s n {k = a .end - (a .l + 3)} (omega (arith, l .if2 .taken)) (q .dips .ensures) (d .dip-if .ensures (λ (h : Part). o (inner (suc (a .l)) h)) (λ h. e (inner (suc (a .l)) h))))
 
 returns-3 : tie.Need-returns-3
 unfolding crosses alike

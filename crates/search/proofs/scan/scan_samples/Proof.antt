@@ -106,7 +106,7 @@ returns-2 c =
     let h = l .before in
     let a = h .before .before .before .before .before .before .args in
     λ o e.
-        scan-whole (error-at (a .given) (a .i)) o (row (now (a .xs)) (now (a .ys))) (a .s) (a .m) (h .before .if1 .left) (state (now (a .qs)) (now (a .cs)) (a .f)) _ (done l o e) (d .last-dip .ensures o e) (t .first-dip .ensures o e)
+    scan-whole (error-at (a .given) (a .i)) o (row (now (a .xs)) (now (a .ys))) (a .s) (a .m) (h .before .if1 .left) (state (now (a .qs)) (now (a .cs)) (a .f)) _ (done l o e) (d .last-dip .ensures o e) (t .first-dip .ensures o e)
 
 pub scan-samples-spec : {M : Type 1} → statement M
 scan-samples-spec =
