@@ -14,7 +14,7 @@ ghost use lib.Ieee.{lt};
 ghost use Rattle.search_definition.specs.Found.{Part, Origin, component};
 ghost use Rattle.search_definition.specs.Dip as Dip;
 ghost use Rattle.search_definition.specs.Dip.{left-of, right-of, sign-of, minimise-dip};
-ghost use Rattle.search_error.specs.Error.{error-at};
+ghost use Rattle.search_error.specs.Given.{error-at};
 ghost use Rattle.search.specs.State.{result, total, valley, point, state, afterwards};
 
 const INV_PHI: f64 = 0.618033988749895;

@@ -14,7 +14,7 @@ ghost use Rattle.float.specs.Number.{is-finite};
 ghost use Rattle.search_definition.specs.Found.{Place, Origin, component};
 ghost use Rattle.search_definition.specs.Search as Search;
 ghost use Rattle.search_definition.specs.Search.{keep, edge-points, edge-from, edge-at};
-ghost use Rattle.search_error.specs.Error.{error-at};
+ghost use Rattle.search_error.specs.Given.{error-at};
 ghost use Rattle.search.specs.State.{result, counted, gap, point, row, firsts, held, state, afterwards};
 
 // A point of the branch, with its value, and an angle where the branch is not; the evaluations so far.

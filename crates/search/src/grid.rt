@@ -13,7 +13,7 @@ ghost use Prim.Native.Nat.{_<_, _≤_, _+_};
 ghost use lib.ListN.{length};
 ghost use Rattle.search_definition.specs.Search as Search;
 ghost use Rattle.search_definition.specs.Search.{edges, runs, of-component, search-1d-bracketed};
-ghost use Rattle.search_error.specs.Error.{error-at};
+ghost use Rattle.search_error.specs.Given.{error-at};
 ghost use Rattle.search.specs.State.{row, held, state, afterwards};
 ghost use Rattle.search.specs.Searched.{spaced, Gridded, of-components, Searched, search-within};
 

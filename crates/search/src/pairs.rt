@@ -6,7 +6,7 @@ ghost use Prim.Native.Nat.{_<_, _≤_};
 ghost use lib.ListN.{set};
 ghost use Rattle.search_definition.specs.Found.{Origin, component};
 ghost use Rattle.search_definition.specs.Dip.{entry, refined};
-ghost use Rattle.search_error.specs.Error.{error-at};
+ghost use Rattle.search_error.specs.Given.{error-at};
 ghost use Rattle.search.specs.State.{point, state, afterwards};
 
 // How many pairs are in the lists, and the evaluations so far.

@@ -6,7 +6,7 @@ use search_error::error_at;
 ghost use mathlib.Core.Path.{_≡_};
 ghost use Prim.Native.Nat.{_<_};
 ghost use Rattle.search_definition.specs.Refine.{refine-bracket};
-ghost use Rattle.search_error.specs.Error.{error-at};
+ghost use Rattle.search_error.specs.Given.{error-at};
 ghost use Rattle.search.specs.State.{result, total};
 
 // An angle, and the evaluations made on the way to it.

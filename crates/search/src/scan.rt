@@ -12,7 +12,7 @@ ghost use lib.ListN.{length};
 ghost use Rattle.search_definition.specs.Found.{Part, Place, Origin, component};
 ghost use Rattle.search_definition.specs.Scan as Scan;
 ghost use Rattle.search_definition.specs.Scan.{falls-to, falls-back, if-dip, item, last-dip, first-dip, scan-samples};
-ghost use Rattle.search_error.specs.Error.{error-at};
+ghost use Rattle.search_error.specs.Given.{error-at};
 ghost use Rattle.search.specs.State.{point, row, state, afterwards};
 
 const TOUCH: f64 = 0.5;

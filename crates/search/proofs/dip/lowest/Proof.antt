@@ -3,7 +3,7 @@ use mathlib.Core.Path.{ap}
 use Prim.Native.Nat.{_+_, _-_, _≤_}
 use native.Mathlib.Omega.{arith}
 use borrow.Author.Needs.{needs}
-use Rattle.search_error.specs.Error.{error-at}
+use Rattle.search_error.specs.Given.{error-at}
 use Rattle.search.specs.State.{valley, evals-of}
 use Rattle.search.proofs.DipSteps.{Going, lowest-starts, lowest-goes, lowest-leaves, lowest-ends}
 use Rattle.search.proofs.dip.lowest.Statement.{statement}

@@ -6,7 +6,7 @@ use denote.Ref.{now}
 use borrow.Author.Needs.{needs}
 use Rattle.search_definition.specs.Found.{grid, crossing, only, before, after, component}
 use Rattle.search_definition.proofs.Bounds.{lowest-asks}
-use Rattle.search_error.specs.Error.{error-at}
+use Rattle.search_error.specs.Given.{error-at}
 use Rattle.search.specs.State.{state, point, evals-of}
 use Rattle.search.proofs.States.{dip-none, dip-tangent, dip-two, refined-few}
 use Rattle.search.proofs.dip.minimise_dip.Statement.{statement}

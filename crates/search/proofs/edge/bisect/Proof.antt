@@ -3,7 +3,7 @@ use mathlib.Core.Path.{_≡_, refl, ap}
 use Prim.Native.Nat.{_+_, _-_, _≤_}
 use native.Mathlib.Omega.{arith}
 use Rattle.search_definition.specs.Search.{bisect}
-use Rattle.search_error.specs.Error.{error-at}
+use Rattle.search_error.specs.Given.{error-at}
 use Rattle.search.specs.State.{gap, counted, evals-of}
 use Rattle.search.proofs.EdgeSteps.{bisect-step, bisect-end}
 use Rattle.search.proofs.edge.bisect.Statement.{statement}

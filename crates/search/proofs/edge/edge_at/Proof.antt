@@ -3,7 +3,7 @@ use mathlib.Core.Path.{refl}
 use denote.Ref.{now}
 use borrow.Author.Needs.{needs}
 use Rattle.search_definition.specs.Found.{edge, component}
-use Rattle.search_error.specs.Error.{error-at}
+use Rattle.search_error.specs.Given.{error-at}
 use Rattle.search.specs.State.{row, state}
 use Rattle.search.proofs.EdgeSteps.{edge-none, edge-left, edge-right}
 use Rattle.search.proofs.edge.edge_at.Statement.{statement}

@@ -6,7 +6,7 @@ use denote.Ref.{now}
 use borrow.Author.Needs.{needs}
 use lib.ListN.{length, length-set}
 use Rattle.search_definition.specs.Search.{edge-points}
-use Rattle.search_error.specs.Error.{error-at}
+use Rattle.search_error.specs.Given.{error-at}
 use Rattle.search.specs.State.{counted, point, row, firsts}
 use Rattle.search.proofs.EdgeSteps.{still, pushed, row-starts, row-next, row-done}
 use Rattle.search.proofs.edge.edge_row.Statement.{statement}

@@ -1,7 +1,7 @@
 -- `search::edge::halved` meets its contract. Assumes nothing.
 use borrow.Author.Needs.{needs}
 use Rattle.search_definition.specs.Search.{mid}
-use Rattle.search_error.specs.Error.{error-at}
+use Rattle.search_error.specs.Given.{error-at}
 use Rattle.search.specs.State.{gap}
 use Rattle.search.proofs.EdgeSteps.{halved-in, halved-out}
 use Rattle.search.proofs.edge.halved.Statement.{statement}

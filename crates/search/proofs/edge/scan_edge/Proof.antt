@@ -6,7 +6,7 @@ use denote.Ref.{now}
 use borrow.Author.Needs.{needs}
 use mathlib.Core.List.{reverse}
 use Rattle.search_definition.proofs.Bounds.{bisect-asks, edge-points-asks}
-use Rattle.search_error.specs.Error.{error-at}
+use Rattle.search_error.specs.Given.{error-at}
 use Rattle.search.specs.State.{gap, point, row, held, evals-of}
 use Rattle.search.proofs.EdgeSteps.{turned-row, edge-straight, edge-turned}
 use Rattle.search.proofs.edge.scan_edge.Statement.{statement}

@@ -8,7 +8,7 @@ use borrow.Author.Needs.{needs}
 use lib.Ieee.{Float, nan}
 use lib.ListN.{length, getD, length-set}
 use Rattle.search_definition.specs.Search.{angle, delta}
-use Rattle.search_error.specs.Error.{error-given-q1, error-at}
+use Rattle.search_error.specs.Given.{error-of, error-at}
 use Rattle.search.specs.Searched.{spaced, Gridded}
 use Rattle.search.proofs.EdgeSteps.{set-next}
 use Rattle.search.proofs.grid.sample_grid.Statement.{statement}
@@ -42,7 +42,7 @@ unfolding error-at
 component c i =
     let h = c .before .before .before in
     let a = h .before .before .before .before .before .before .before .args in
-    ap (λ (l : List Float). getD l i nan) (c .error-given-q1 .ensures) ∙ ap (λ x. getD (error-given-q1 (a .given) x) i nan) (at-angle (c .before))
+    ap (λ (l : List Float). getD l i nan) (c .error-given-q1 .ensures) ∙ ap (λ x. getD (error-of (a .given) x) i nan) (at-angle (c .before))
 
 loop-again : tie.Need-loop-again Inv-loop μ-loop
 loop-again c =

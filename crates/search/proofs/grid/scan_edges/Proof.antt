@@ -5,7 +5,7 @@ use native.Mathlib.Omega.{arith}
 use denote.Ref.{now}
 use lib.ListN.{length}
 use Rattle.search_definition.specs.Search.{edges}
-use Rattle.search_error.specs.Error.{error-at}
+use Rattle.search_error.specs.Given.{error-at}
 use Rattle.search.specs.State.{row, state, afterwards}
 use Rattle.search.proofs.GridSteps.{edges-step, edges-end, few-edges}
 use Rattle.search.proofs.grid.scan_edges.Statement.{statement}

@@ -8,7 +8,7 @@ use borrow.Author.Needs.{needs}
 use lib.ListN.{length}
 use Rattle.search_definition.specs.Found.{grid, component}
 use Rattle.search_definition.specs.Search.{runs}
-use Rattle.search_error.specs.Error.{error-at}
+use Rattle.search_error.specs.Given.{error-at}
 use Rattle.search.specs.State.{row, state, afterwards}
 use Rattle.search.proofs.RefineSteps.{passed, failed}
 use Rattle.search.proofs.States.{after-two}

@@ -1,7 +1,7 @@
 -- `search::grid::search_grid` meets its contract. Assumes nothing.
 use denote.Ref.{now}
 use borrow.Author.Needs.{needs}
-use Rattle.search_error.specs.Error.{error-at}
+use Rattle.search_error.specs.Given.{error-at}
 use Rattle.search.proofs.GridSteps.{search-done}
 use Rattle.search.proofs.grid.search_grid.Statement.{statement}
 use Rattle.search.proofs.grid.search_grid.Tie as tie

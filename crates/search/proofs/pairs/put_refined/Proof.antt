@@ -4,7 +4,7 @@ use native.Mathlib.Omega.{arith}
 use denote.Ref.{now}
 use borrow.Author.Needs.{needs}
 use Rattle.search_definition.proofs.Bounds.{refine-asks}
-use Rattle.search_error.specs.Error.{error-at}
+use Rattle.search_error.specs.Given.{error-at}
 use Rattle.search.specs.State.{state, point, evals-of}
 use Rattle.search.proofs.States.{after-refined}
 use Rattle.search.proofs.pairs.put_refined.Statement.{statement}

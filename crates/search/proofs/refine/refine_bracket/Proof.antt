@@ -9,7 +9,7 @@ use borrow.Author.Tests.{eq-eqb, ne-eqb}
 use lib.Ieee.{Float}
 use Rattle.search_definition.specs.Found.{run}
 use Rattle.search_definition.specs.Refine.{Bracket, next, negative, narrowed, reached, refine-turn, refine-from, refine-bracket}
-use Rattle.search_error.specs.Error.{error-at}
+use Rattle.search_error.specs.Given.{error-at}
 use Rattle.search.specs.State.{Counted, total, counted}
 use Rattle.search.proofs.Count.{counted-total, turn-leaves, turn-quits, turn-goes, turns-end}
 use Rattle.search.proofs.RefineSteps.{passed, failed, no-next, no-value, is-near, goes-on, near-left, near-right, far, to-left, to-right}

@@ -1,7 +1,7 @@
 -- `search::scan::dip_if` meets its contract. Assumes nothing.
 use denote.Ref.{now}
 use borrow.Author.Needs.{needs}
-use Rattle.search_error.specs.Error.{error-at}
+use Rattle.search_error.specs.Given.{error-at}
 use Rattle.search.specs.State.{state, point}
 use Rattle.search.proofs.ScanSteps.{dip-held, dip-not-held}
 use Rattle.search.proofs.scan.dip_if.Statement.{statement}

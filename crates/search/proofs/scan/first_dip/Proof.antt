@@ -3,7 +3,7 @@ use denote.Ref.{now}
 use borrow.Author.Needs.{needs}
 use Rattle.search_definition.specs.Found.{Part, first}
 use Rattle.search_definition.specs.Scan.{falls-back, alike}
-use Rattle.search_error.specs.Error.{error-at}
+use Rattle.search_error.specs.Given.{error-at}
 use Rattle.search.specs.State.{state, row}
 use Rattle.search.proofs.ScanSteps.{first-is}
 use Rattle.search.proofs.scan.first_dip.Statement.{statement}

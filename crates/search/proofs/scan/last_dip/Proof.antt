@@ -3,7 +3,7 @@ use denote.Ref.{now}
 use borrow.Author.Needs.{needs}
 use Rattle.search_definition.specs.Found.{Part, last}
 use Rattle.search_definition.specs.Scan.{falls-to, alike}
-use Rattle.search_error.specs.Error.{error-at}
+use Rattle.search_error.specs.Given.{error-at}
 use Rattle.search.specs.State.{state, row}
 use Rattle.search.proofs.ScanSteps.{last-is}
 use Rattle.search.proofs.scan.last_dip.Statement.{statement}

@@ -5,7 +5,7 @@ use denote.Ref.{now}
 use borrow.Author.Needs.{needs}
 use Rattle.search_definition.specs.Found.{Part, crossing, inner}
 use Rattle.search_definition.specs.Scan.{alike, crosses, dips}
-use Rattle.search_error.specs.Error.{error-at}
+use Rattle.search_error.specs.Given.{error-at}
 use Rattle.search.specs.State.{state, row}
 use Rattle.search.proofs.ScanSteps.{item-crossing, item-inner, inner-is, inner-none}
 use Rattle.search.proofs.scan.scan_item.Statement.{statement}

@@ -6,7 +6,7 @@ use denote.Ref.{now}
 use lib.ListN.{length}
 use Rattle.search_definition.specs.Found.{Place, Origin, grid, component}
 use Rattle.search_definition.specs.Scan.{items}
-use Rattle.search_error.specs.Error.{error-at}
+use Rattle.search_error.specs.Given.{error-at}
 use Rattle.search.specs.State.{state, row, afterwards}
 use Rattle.search.proofs.ScanSteps.{items-from, item-then, no-more, scan-short, scan-whole, few-now, few-then}
 use Rattle.search.proofs.scan.scan_samples.Statement.{statement}
