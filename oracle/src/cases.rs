@@ -41,9 +41,11 @@ pub fn write_cases<A: Arith>(
     group: Group,
     seed: u64,
     count: u64,
+    only: &[u64],
 ) -> io::Result<()> {
+    let wanted = |f: &&Function| f.group == group && (only.is_empty() || only.contains(&f.id));
     for place in 0..count {
-        for function in FUNCTIONS.iter().filter(|f| f.group == group) {
+        for function in FUNCTIONS.iter().filter(wanted) {
             let rng = &mut Rng::of(&[seed, group as u64, function.id, place]);
             for word in record::<A>(function, &arguments(function, rng)) {
                 output.write_all(&word.to_le_bytes())?;
@@ -173,7 +175,7 @@ mod tests {
             let functions = FUNCTIONS.iter().filter(|f| f.group == *group).count();
             let mut output = Vec::new();
             let count = if *group == Group::Families { 5 } else { 300 };
-            write_cases::<Rules>(&mut output, *group, 11, count as u64).unwrap();
+            write_cases::<Rules>(&mut output, *group, 11, count as u64, &[]).unwrap();
             assert_eq!(output.len(), 8 * words * functions * count);
         }
     }

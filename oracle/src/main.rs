@@ -47,7 +47,7 @@ usage: oracle COMMAND
                                          angles among their answers (n = 200 in family 6)
   differ FAMILY SEED COUNT [N]           the largest difference between the answers under
                                          document 01's rules and under the machine's functions
-  cases GROUP SEED COUNT                 test records; GROUP is float, linear, complex, polynomial,
+  cases GROUP SEED COUNT [ID..]          test records; GROUP is float, linear, complex, polynomial,
                                          subproblems, kinematics or families
   layout                                 the layouts of the test records
   bench GROUP ID COUNT SEED [N]          run one function COUNT times over inputs made before;
@@ -140,9 +140,13 @@ fn command<A: Arith>(line: &CommandLine, output: &mut impl Write) -> Result<(), 
             let request = Generated::parse("reachable", family, seed, count, n)?;
             told(request.write_differences(output))
         }
-        ["cases", group, seed, count] => {
+        ["cases", group, seed, count, ref ids @ ..] => {
             let (group, seed, count) = (group_named(group)?, number(seed)?, number(count)?);
-            told(cases::write_cases::<A>(output, group, seed, count))
+            let only = ids
+                .iter()
+                .map(|id| number(id))
+                .collect::<Result<Vec<_>, _>>()?;
+            told(cases::write_cases::<A>(output, group, seed, count, &only))
         }
         ["layout"] => told(output.write_all(cases::LAYOUT.as_bytes())),
         ["bench", group, id, count, seed, ref n @ ..] => {
