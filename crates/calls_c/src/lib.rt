@@ -1,0 +1,35 @@
+// The functions by number for a C or Rust caller: what tools/bench_functions.sh measures.
+#[no_mangle]
+pub extern "C" fn saihkeb_polynomial(id: u64, args: &[f64; 40], out: &mut [u64; 23]) {
+    calls::polynomial(id, args, out);
+}
+
+#[no_mangle]
+pub extern "C" fn saihkeb_subproblem(id: u64, args: &[f64; 40], out: &mut [u64; 23]) {
+    calls::subproblem(id, args, out);
+}
+
+#[no_mangle]
+pub extern "C" fn saihkeb_reduced_solutionset(count: u64, args: &[f64; 40], out: &mut [u64; 23]) {
+    calls::reduced_solutionset(count, args, out);
+}
+
+#[no_mangle]
+pub extern "C" fn saihkeb_family(
+    id: u64,
+    arm: &[f64; 39],
+    pose: &[f64; 12],
+    angles: &mut [f64; 48],
+    flags: &mut [u8; 8],
+) -> usize {
+    family_calls::family(id, arm, pose, angles, flags)
+}
+
+#[no_mangle]
+pub extern "C" fn saihkeb_forward_kinematics(
+    arm: &[f64; 39],
+    theta: &[f64; 6],
+    out: &mut [u64; 18],
+) {
+    family_calls::forward_kinematics(arm, *theta, out);
+}

@@ -1,0 +1,61 @@
+// Compares forward_kinematics with outside results. Standard input has records of 64 words: the id,
+// which is 0, the arm's 39 numbers, six angles and 18 words of results, as `oracle layout` has them.
+// `oracle cases kinematics 1 500` made the stored cases; tools/compare.sh runs others.
+const FUNCTIONS: u64 = 1;
+
+const ARM: usize = 1;
+
+const ANGLES: usize = 40;
+
+const RESULTS: usize = 46;
+
+fn arm(bytes: &[u8; 512]) -> [f64; 39] {
+    let mut xs = [0.0; 39];
+    cases::arguments(bytes, ARM, &mut xs);
+    xs
+}
+
+fn angles(bytes: &[u8; 512]) -> [f64; 6] {
+    let mut xs = [0.0; 6];
+    cases::arguments(bytes, ANGLES, &mut xs);
+    xs
+}
+
+fn gives(bytes: &[u8; 512], out: &[u64; 18]) -> bool {
+    cases::agree(bytes, RESULTS, out)
+}
+
+fn agrees(bytes: &[u8; 512]) -> bool {
+    let from = arm(bytes);
+    let theta = angles(bytes);
+    let mut out = [0u64; 18];
+    family_calls::forward_kinematics(&from, theta, &mut out);
+    gives(bytes, &out)
+}
+
+// Checks one record, and answers whether there was a whole one.
+fn check(tally: &mut [u64; 64]) -> bool {
+    let mut bytes = [0u8; 512];
+    if !cases::next(&mut bytes, tally) {
+        return false;
+    }
+    let id = cases::word(&bytes, 0);
+    let ok = agrees(&bytes);
+    cases::count(tally, FUNCTIONS, id, ok);
+    true
+}
+
+// Input of any length: the count of turns is one that no run uses up.
+fn check_all(tally: &mut [u64; 64]) {
+    let mut turns = u64::MAX;
+    while turns > 0 && check(tally) {
+        turns -= 1;
+    }
+}
+
+fn main() {
+    let mut tally = [0u64; 64];
+    check_all(&mut tally);
+    cases::line(b"forward_kinematics", &tally, 0);
+    cases::end(&tally);
+}
