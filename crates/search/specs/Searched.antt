@@ -1,11 +1,11 @@
 -- What the search leaves in the two lent lists, and what it returns.
 use mathlib.Core.Bool.{cond}
-use mathlib.Core.List.{List, map}
+use mathlib.Core.List.{List, _++_, map}
 use mathlib.Core.Path.{_≡_}
 use Prim.Native.Nat.{ℕ, _<_}
 use lib.Dec.{leb}
 use lib.IntN.{pos}
-use lib.ListN.{length, getD}
+use lib.ListN.{length, getD, drop}
 use lib.Seq.{sets}
 use lib.Ieee.{Float, nan, neg}
 use Rattle.float.specs.Num.{_⊕_, _⊗_, whole, pi}
@@ -44,5 +44,12 @@ search-within err n = cond (leb n 400) (search-1d-bracketed err n) nothing
 pub record Searched (o : Out) (q : List Float) (c : List ℕ) (q′ : List Float) (c′ : List ℕ) (r : Declared.Found) : Type 0 where
   pub angles : q′ ≡ sets q 0 (map angle-of (o .found))
   pub components : c′ ≡ sets c 0 (map component-of (o .found))
+  pub pairs : r .pairs ≡ length (o .found)
+  pub evals : r .evals ≡ length (o .asked)
+
+-- The same with room for every pair: the lists are the definition's, in its order, and then what stood there.
+pub record Listed (o : Out) (q : List Float) (c : List ℕ) (q′ : List Float) (c′ : List ℕ) (r : Declared.Found) : Type 0 where
+  pub angles : q′ ≡ map angle-of (o .found) ++ drop (r .pairs) q
+  pub components : c′ ≡ map component-of (o .found) ++ drop (r .pairs) c
   pub pairs : r .pairs ≡ length (o .found)
   pub evals : r .evals ≡ length (o .asked)

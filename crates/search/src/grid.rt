@@ -6,6 +6,9 @@ use crate::scan::scan_samples;
 use float::PI;
 use float::infinity;
 use float::is_finite;
+use kinematics::Kinematics;
+use linear::Matrix3;
+use linear::Vector3;
 use search_error::Given;
 use search_error::error_given_q1;
 ghost use mathlib.Core.Path.{_≡_};
@@ -15,6 +18,7 @@ ghost use Rattle.search_definition.specs.Search as Search;
 ghost use Rattle.search_definition.specs.Search.{edges, runs, of-component, search-1d-bracketed};
 ghost use Rattle.search_error.specs.Given.{error-at};
 ghost use Rattle.search.specs.State.{row, held, state, afterwards};
+ghost use Rattle.search.specs.Demand.{two-parallel-search};
 ghost use Rattle.search.specs.Searched.{spaced, Gridded, of-components, Searched, search-within};
 
 // A run of finite samples is ended by one that is not finite, or by the grid's end.
@@ -178,4 +182,18 @@ pub fn search_1d_bracketed(given: Given, n: usize, qs: &mut [f64], cs: &mut [u8]
         return Found { pairs: 0, evals: 0 };
     }
     search_grid(given, n, qs, cs)
+}
+
+// The search of two_parallel for an arm and a pose.
+pub fn search_two_parallel(
+    kin: Kinematics,
+    r_06: Matrix3,
+    p_0t: Vector3,
+    n: usize,
+    qs: &mut [f64],
+    cs: &mut [u8],
+) -> Found
+    ensures { λ r. ⌜ Searched (two-parallel-search kin «r_06» «p_0t» n) (now (qs .entry)) (now (cs .entry)) (now (qs .exit)) (now (cs .exit)) r ⌝ }
+{
+    search_1d_bracketed(Given::new(kin, r_06, p_0t), n, qs, cs)
 }
