@@ -8,16 +8,16 @@ use lib.IntN.{pos}
 use lib.ListN.{length, getD, drop}
 use lib.Seq.{sets}
 use lib.Ieee.{Float, nan, neg}
-use Rattle.float.specs.Num.{_⊕_, _⊗_, whole, pi}
+use Rattle.float.specs.Num.{_⊕_, _⊖_, _⊗_, _⊘_, whole, pi}
 use Rattle.search_definition.specs.Found.{Out, nothing, _then_}
 use Rattle.search_definition.specs.Dip.{Point}
 use Rattle.search_definition.specs.Search.{angle, of-component, search-1d-bracketed}
 use Rattle.search.specs.State.{angle-of, component-of}
 use Rattle.search.specs.declared.pairs.Found as Declared
 
--- left + k * d
-abbrev pub spaced : Float → ℕ → Float
-spaced d k = neg pi ⊕ whole (pos k) ⊗ d
+-- left + k * delta, written out
+abbrev pub spaced : ℕ → ℕ → Float
+spaced n k = neg pi ⊕ whole (pos k) ⊗ ((pi ⊖ neg pi) ⊘ whole (pos n))
 
 -- the first n numbers of a list are those of a rule
 abbrev pub Sampled : (ℕ → Float) → ℕ → List Float → Type 0

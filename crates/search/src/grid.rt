@@ -91,18 +91,11 @@ pub fn search_component(
     scan_edges(given, i, xs, ys, n, qs, cs, g)
 }
 
-// (right - left) / n
-pub fn delta(n: usize) -> f64
-    ensures { λ r. ⌜ r ≡ Search.delta n ⌝ }
+// left + k * delta, with delta = (right - left) / n. The last angle is not set to PI.
+pub fn angle(n: u32, k: u32) -> f64
+    ensures { λ r. ⌜ r ≡ spaced n k ⌝ }
 {
-    (PI - -PI) / std::num::nearest_u64_to_f64(n as u64)
-}
-
-// left + k * delta
-pub fn angle(d: f64, k: usize) -> f64
-    ensures { λ r. ⌜ r ≡ spaced d k ⌝ }
-{
-    -PI + std::num::nearest_u64_to_f64(k as u64) * d
+    -PI + (k as f64) * ((PI - -PI) / (n as f64))
 }
 
 // The grid's angles, and the error's components there: n + 1 evaluations, which are returned.
@@ -115,14 +108,13 @@ pub fn sample_grid(
     y2: &mut [f64],
     y3: &mut [f64],
 ) -> u64
-    requires { ⌜ (n < length (now xs)) × (n < length (now y0)) × (n < length (now y1)) × (n < length (now y2)) × (n < length (now y3)) ⌝ }
+    requires { ⌜ (n ≤ 400) × (n < length (now xs)) × (n < length (now y0)) × (n < length (now y1)) × (n < length (now y2)) × (n < length (now y3)) ⌝ }
     ensures { λ r. ⌜ (r ≡ n + 1) × Gridded (error-at given) n (n + 1) (now (xs .exit)) (now (y0 .exit)) (now (y1 .exit)) (now (y2 .exit)) (now (y3 .exit)) ⌝ }
 {
-    let d = delta(n);
     let mut evals = 0u64;
     let mut k = 0usize;
     while k <= n {
-        let x = angle(d, k);
+        let x = angle(n as u32, k as u32);
         let e = error_given_q1(given, x);
         evals += 1;
         xs[k] = x;
