@@ -7,3 +7,4 @@ pub mod Rows
 pub mod EdgeSteps
 pub mod GridSteps
 pub mod Listed
+pub mod Demand

@@ -1,5 +1,5 @@
 -- What the search's contract means: the fields of `Searched`, and the whole lists where there is room for every pair. Assumes nothing.
-use mathlib.Core.Path.{_≡_, refl, sym, _∙_, ap}
+use mathlib.Core.Path.{_≡_, refl, sym, _∙_, ap, subst}
 use mathlib.Core.Bool.{true, false}
 use mathlib.Core.List.{List, _++_, map}
 use Prim.Native.Nat.{ℕ, _+_, _*_, _≤_, _<_}
@@ -14,7 +14,7 @@ use Rattle.search_definition.specs.Found.{Out, nothing}
 use Rattle.search_definition.specs.Search.{search-1d-bracketed}
 use Rattle.search_definition.proofs.Bounds.{search-held}
 use Rattle.search.specs.State.{State, held, state, angle-of, component-of, afterwards}
-use Rattle.search.specs.Searched.{Searched, search-within}
+use Rattle.search.specs.Searched.{Searched, Listed, search-within}
 use Rattle.search.specs.declared.pairs.Found.{Found}
 use Rattle.search.proofs.States.{after-nothing}
 
@@ -28,6 +28,9 @@ searched o q c e =
       evals = ap (λ (z : State). z .evals) e ∙ zero-add _;
     }
 
+pub same-error : {err err′ : ℕ → Float → Float} (n : ℕ) (q : List Float) (c : List ℕ) {q′ : List Float} {c′ : List ℕ} {r : Found} → err ≡ err′ → Searched (search-within err n) q c q′ c′ r → Searched (search-within err′ n) q c q′ c′ r
+same-error n q c {q′} {c′} {r} e s = subst (λ (f : ℕ → Float → Float). Searched (search-within f n) q c q′ c′ r) e s
+
 module _ (err : ℕ → Float → Float) (n : ℕ) where
   pub within : n ≤ 400 → search-1d-bracketed err n ≡ search-within err n
   within h = rw (le-leb n 400 h)
@@ -35,16 +38,7 @@ module _ (err : ℕ → Float → Float) (n : ℕ) where
   pub beyond : 400 < n → nothing ≡ search-within err n
   beyond h = rw (lt-leb n 400 h)
 
-  -- with room for 44 n pairs the lists are the definition's, and then what stood there
-  pub record Listed (q : List Float) (c : List ℕ) (q′ : List Float) (c′ : List ℕ) (r : Found) : Type 0 where
-    pub angles : q′ ≡ map angle-of (search-1d-bracketed err n .found) ++ drop (r .pairs) q
-    pub components : c′ ≡ map component-of (search-1d-bracketed err n .found) ++ drop (r .pairs) c
-    pub pairs : r .pairs ≡ length (search-1d-bracketed err n .found)
-    pub few : r .pairs ≤ 44 * n
-    pub evals : r .evals ≡ length (search-1d-bracketed err n .asked)
-    pub bounded : r .evals ≤ n + 1 + 3128 * n
-
-  pub listed : (q : List Float) (c : List ℕ) {q′ : List Float} {c′ : List ℕ} {r : Found} → n ≤ 400 → 44 * n ≤ length q → 44 * n ≤ length c → Searched (search-within err n) q c q′ c′ r → Listed q c q′ c′ r
+  pub listed : (q : List Float) (c : List ℕ) {q′ : List Float} {c′ : List ℕ} {r : Found} → n ≤ 400 → 44 * n ≤ length q → 44 * n ≤ length c → Searched (search-within err n) q c q′ c′ r → Listed (search-1d-bracketed err n) q c q′ c′ r
   listed q c {q′} {c′} {r} h a b w =
       let s : Searched (search-1d-bracketed err n) q c q′ c′ r = rw (within h) w in
       let l = search-1d-bracketed err n .found in
@@ -55,7 +49,5 @@ module _ (err : ℕ → Float → Float) (n : ℕ) where
         angles = s .angles ∙ sets-eq (map angle-of l) q 0 (omega (arith, k .pairs)) ∙ ap (λ (j : ℕ). map angle-of l ++ drop j q) (zero-add _ ∙ m ∙ sym (s .pairs));
         components = s .components ∙ sets-eq (map component-of l) c 0 (omega (arith, k .pairs)) ∙ ap (λ (j : ℕ). map component-of l ++ drop j c) (zero-add _ ∙ p ∙ sym (s .pairs));
         pairs = s .pairs;
-        few = omega (arith, s .pairs, k .pairs);
         evals = s .evals;
-        bounded = omega (arith, s .evals, k .cost);
       }

@@ -18,34 +18,39 @@ passed {r} b e t = sym e ∙ not-false r t
 pub failed : {r : Bool} (b : Bool) → r ≡ b → not r ≡ true → b ≡ false
 failed {r} b e t = sym e ∙ not-true r t
 
-module _ (f : Float → Float) (s : Bracket) where
-  pub no-next : is-finite (next s) ≡ false → refine-turn f s ≡ leave [] (s .x)
-  unfolding refine-turn if-next
-  no-next g = ap (λ (b : Bool). if-next f b (next s) s) g
+-- p is the guess, as a call gave it
+module _ (f : Float → Float) (s : Bracket) {p : Float} (ep : p ≡ next s) where
+  guess-is : (b : Bool) → is-finite p ≡ b → refine-turn f s ≡ if-next f b p s
+  unfolding refine-turn
+  guess-is b g = ap (λ (z : Float). if-next f (is-finite z) z s) (sym ep) ∙ ap (λ (b : Bool). if-next f b p s) g
 
-  module _ (g : is-finite (next s) ≡ true) (y : Float) (e : y ≡ f (next s)) where
-    value : refine-turn f s ≡ if-value (is-finite y) (next s) y s
-    unfolding refine-turn if-next
-    value = ap (λ (b : Bool). if-next f b (next s) s) g ∙ ap (λ (z : Float). if-value (is-finite z) (next s) z s) (sym e)
+  pub no-next : is-finite p ≡ false → refine-turn f s ≡ leave [] (s .x)
+  unfolding if-next
+  no-next g = guess-is false g
 
-    pub no-value : is-finite y ≡ false → refine-turn f s ≡ leave (next s ∷ []) (s .x)
+  -- y is the value there
+  module _ (g : is-finite p ≡ true) (y : Float) (e : y ≡ f p) where
+    value : (b : Bool) → is-finite y ≡ b → refine-turn f s ≡ if-value b p y s
+    unfolding if-next
+    value b v =
+        guess-is true g ∙ ap (λ (z : Float). if-value (is-finite z) p z s) (sym e) ∙ ap (λ (b : Bool). if-value b p y s) v
+
+    pub no-value : is-finite y ≡ false → refine-turn f s ≡ leave (p ∷ []) (s .x)
     unfolding if-value
-    no-value v = value ∙ ap (λ (b : Bool). if-value b (next s) y s) v
+    no-value v = value false v
 
     module _ (v : is-finite y ≡ true) where
-      close : refine-turn f s ≡ if-near (near s y) (next s) y s
+      close : (b : Bool) → near s y ≡ b → refine-turn f s ≡ if-near b p y s
       unfolding if-value
-      close = value ∙ ap (λ (b : Bool). if-value b (next s) y s) v
+      close b n = value true v ∙ ap (λ (b : Bool). if-near b p y s) n
 
-      pub is-near : near s y ≡ true → refine-turn f s ≡ leave (next s ∷ []) (next s)
+      pub is-near : near s y ≡ true → refine-turn f s ≡ leave (p ∷ []) p
       unfolding if-near
-      is-near n = close ∙ ap (λ (b : Bool). if-near b (next s) y s) n
+      is-near n = close true n
 
-      pub goes-on : (d : Bool) → Bool·beq (negative y) (negative (s .fa)) ≡ d → near s y ≡ false → refine-turn f s ≡ again (next s ∷ []) (narrowed d (next s) y s)
+      pub goes-on : (d : Bool) → Bool·beq (negative y) (negative (s .fa)) ≡ d → near s y ≡ false → refine-turn f s ≡ again (p ∷ []) (narrowed d p y s)
       unfolding if-near
-      goes-on d q n =
-          close ∙ ap (λ (b : Bool). if-near b (next s) y s) n
-          ∙ ap (λ (b : Bool). again (next s ∷ []) (narrowed b (next s) y s)) q
+      goes-on d q n = close false n ∙ ap (λ (b : Bool). again (p ∷ []) (narrowed b p y s)) q
 
 -- `a || b`, by which half held
 module _ (s : Bracket) (y : Float) {r : Float} (e : r ≡ abs y) where

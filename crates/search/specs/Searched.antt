@@ -1,23 +1,23 @@
 -- What the search leaves in the two lent lists, and what it returns.
 use mathlib.Core.Bool.{cond}
-use mathlib.Core.List.{List, map}
+use mathlib.Core.List.{List, _++_, map}
 use mathlib.Core.Path.{_≡_}
 use Prim.Native.Nat.{ℕ, _<_}
 use lib.Dec.{leb}
 use lib.IntN.{pos}
-use lib.ListN.{length, getD}
+use lib.ListN.{length, getD, drop}
 use lib.Seq.{sets}
 use lib.Ieee.{Float, nan, neg}
-use Rattle.float.specs.Num.{_⊕_, _⊗_, whole, pi}
+use Rattle.float.specs.Num.{_⊕_, _⊖_, _⊗_, _⊘_, whole, pi}
 use Rattle.search_definition.specs.Found.{Out, nothing, _then_}
 use Rattle.search_definition.specs.Dip.{Point}
 use Rattle.search_definition.specs.Search.{angle, of-component, search-1d-bracketed}
 use Rattle.search.specs.State.{angle-of, component-of}
 use Rattle.search.specs.declared.pairs.Found as Declared
 
--- left + k * d
-abbrev pub spaced : Float → ℕ → Float
-spaced d k = neg pi ⊕ whole (pos k) ⊗ d
+-- left + k * delta, written out
+abbrev pub spaced : ℕ → ℕ → Float
+spaced n k = neg pi ⊕ whole (pos k) ⊗ ((pi ⊖ neg pi) ⊘ whole (pos n))
 
 -- the first n numbers of a list are those of a rule
 abbrev pub Sampled : (ℕ → Float) → ℕ → List Float → Type 0
@@ -44,5 +44,12 @@ search-within err n = cond (leb n 400) (search-1d-bracketed err n) nothing
 pub record Searched (o : Out) (q : List Float) (c : List ℕ) (q′ : List Float) (c′ : List ℕ) (r : Declared.Found) : Type 0 where
   pub angles : q′ ≡ sets q 0 (map angle-of (o .found))
   pub components : c′ ≡ sets c 0 (map component-of (o .found))
+  pub pairs : r .pairs ≡ length (o .found)
+  pub evals : r .evals ≡ length (o .asked)
+
+-- The same with room for every pair: the lists are the definition's, in its order, and then what stood there.
+pub record Listed (o : Out) (q : List Float) (c : List ℕ) (q′ : List Float) (c′ : List ℕ) (r : Declared.Found) : Type 0 where
+  pub angles : q′ ≡ map angle-of (o .found) ++ drop (r .pairs) q
+  pub components : c′ ≡ map component-of (o .found) ++ drop (r .pairs) c
   pub pairs : r .pairs ≡ length (o .found)
   pub evals : r .evals ≡ length (o .asked)

@@ -6,6 +6,9 @@ use crate::scan::scan_samples;
 use float::PI;
 use float::infinity;
 use float::is_finite;
+use kinematics::Kinematics;
+use linear::Matrix3;
+use linear::Vector3;
 use search_error::Given;
 use search_error::error_given_q1;
 ghost use mathlib.Core.Path.{_≡_};
@@ -15,6 +18,7 @@ ghost use Rattle.search_definition.specs.Search as Search;
 ghost use Rattle.search_definition.specs.Search.{edges, runs, of-component, search-1d-bracketed};
 ghost use Rattle.search_error.specs.Given.{error-at};
 ghost use Rattle.search.specs.State.{row, held, state, afterwards};
+ghost use Rattle.search.specs.Demand.{two-parallel-search};
 ghost use Rattle.search.specs.Searched.{spaced, Gridded, of-components, Searched, search-within};
 
 // A run of finite samples is ended by one that is not finite, or by the grid's end.
@@ -87,18 +91,11 @@ pub fn search_component(
     scan_edges(given, i, xs, ys, n, qs, cs, g)
 }
 
-// (right - left) / n
-pub fn delta(n: usize) -> f64
-    ensures { λ r. ⌜ r ≡ Search.delta n ⌝ }
+// left + k * delta, with delta = (right - left) / n. The last angle is not set to PI.
+pub fn angle(n: u32, k: u32) -> f64
+    ensures { λ r. ⌜ r ≡ spaced n k ⌝ }
 {
-    (PI - -PI) / std::num::nearest_u64_to_f64(n as u64)
-}
-
-// left + k * delta
-pub fn angle(d: f64, k: usize) -> f64
-    ensures { λ r. ⌜ r ≡ spaced d k ⌝ }
-{
-    -PI + std::num::nearest_u64_to_f64(k as u64) * d
+    -PI + (k as f64) * ((PI - -PI) / (n as f64))
 }
 
 // The grid's angles, and the error's components there: n + 1 evaluations, which are returned.
@@ -111,14 +108,13 @@ pub fn sample_grid(
     y2: &mut [f64],
     y3: &mut [f64],
 ) -> u64
-    requires { ⌜ (n < length (now xs)) × (n < length (now y0)) × (n < length (now y1)) × (n < length (now y2)) × (n < length (now y3)) ⌝ }
+    requires { ⌜ (n ≤ 400) × (n < length (now xs)) × (n < length (now y0)) × (n < length (now y1)) × (n < length (now y2)) × (n < length (now y3)) ⌝ }
     ensures { λ r. ⌜ (r ≡ n + 1) × Gridded (error-at given) n (n + 1) (now (xs .exit)) (now (y0 .exit)) (now (y1 .exit)) (now (y2 .exit)) (now (y3 .exit)) ⌝ }
 {
-    let d = delta(n);
     let mut evals = 0u64;
     let mut k = 0usize;
     while k <= n {
-        let x = angle(d, k);
+        let x = angle(n as u32, k as u32);
         let e = error_given_q1(given, x);
         evals += 1;
         xs[k] = x;
@@ -178,4 +174,18 @@ pub fn search_1d_bracketed(given: Given, n: usize, qs: &mut [f64], cs: &mut [u8]
         return Found { pairs: 0, evals: 0 };
     }
     search_grid(given, n, qs, cs)
+}
+
+// The search of two_parallel for an arm and a pose.
+pub fn search_two_parallel(
+    kin: Kinematics,
+    r_06: Matrix3,
+    p_0t: Vector3,
+    n: usize,
+    qs: &mut [f64],
+    cs: &mut [u8],
+) -> Found
+    ensures { λ r. ⌜ Searched (two-parallel-search kin «r_06» «p_0t» n) (now (qs .entry)) (now (cs .entry)) (now (qs .exit)) (now (cs .exit)) r ⌝ }
+{
+    search_1d_bracketed(Given::new(kin, r_06, p_0t), n, qs, cs)
 }

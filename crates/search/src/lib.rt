@@ -9,4 +9,5 @@ mod refine;
 mod scan;
 
 pub use grid::search_1d_bracketed;
+pub use grid::search_two_parallel;
 pub use pairs::Found;

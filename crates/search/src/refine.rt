@@ -5,6 +5,7 @@ use search_error::Given;
 use search_error::error_at;
 ghost use mathlib.Core.Path.{_≡_};
 ghost use Prim.Native.Nat.{_<_};
+ghost use Rattle.float.specs.Num.{_⊖_, _⊗_, _⊘_};
 ghost use Rattle.search_definition.specs.Refine.{refine-bracket};
 ghost use Rattle.search_error.specs.Given.{error-at};
 ghost use Rattle.search.specs.State.{result, total};
@@ -13,6 +14,13 @@ ghost use Rattle.search.specs.State.{result, total};
 pub struct Root {
     pub x: f64,
     pub evals: u64,
+}
+
+// Where the chord between the ends of a bracket is zero. It may lie outside the bracket.
+pub fn chord_zero(a: f64, b: f64, fa: f64, fb: f64) -> f64
+    ensures { λ r. ⌜ r ≡ (a ⊗ fb ⊖ b ⊗ fa) ⊘ (fb ⊖ fa) ⌝ }
+{
+    (a * fb - b * fa) / (fb - fa)
 }
 
 // `side` is 1 where the last turn moved a (the Rust's -1) and 2 where it moved b (its 1).
@@ -28,7 +36,7 @@ pub fn refine_bracket(given: Given, i: usize, a0: f64, b0: f64, fa0: f64, fb0: f
     let mut x = a0;
     let mut evals = 0u64;
     for _ in 0..60usize {
-        let next = (a * fb - b * fa) / (fb - fa);
+        let next = chord_zero(a, b, fa, fb);
         if !is_finite(next) {
             break;
         }

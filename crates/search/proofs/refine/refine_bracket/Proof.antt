@@ -41,26 +41,29 @@ rest h s = counted (h .loop .evals + 1) (run (refine-turn (err h)) reached (60 -
 
 -- the turn goes on with the definition's next bracket
 step : (c : tie.Else4 Inv-loop μ-loop) (d : Bool) →
-    let p6 = c .before .before .before .before .before in
-    let h = p6 .before .before .before .before .before in
-    let y = p6 .before .error-at .result in
-    Bool·beq (negative y) (negative (h .loop .fa)) ≡ d → rest h (narrowed d (next (at h)) y (at h)) ≡ total (refine-bracket (err h) (h .before .args .a0) (h .before .args .b0) (h .before .args .fa0) (h .before .args .fb0))
+    let v = c .before .before .before .before .before in
+    let z = v .before .before .before .before in
+    let h = z .before .before in
+    let y = v .before .error-at .result in
+    Bool·beq (negative y) (negative (h .loop .fa)) ≡ d → rest h (narrowed d (z .chord-zero .result) y (at h)) ≡ total (refine-bracket (err h) (h .before .args .a0) (h .before .args .b0) (h .before .args .fa0) (h .before .args .fb0))
 unfolding next
 step c d t =
     let q = c .before .before .before .before in
-    let p6 = q .before in
-    let h = p6 .before .before .before .before .before in
-    turn-goes (refine-turn (err h)) reached 60 (at h) (h .loop .evals) (h .loop .counter) _ (h .loop .inv .2) (omega arith) (next (at h) ∷ []) _
-    (goes-on (err h) (at h) (passed _ (p6 .before .before .before .is-finite .ensures) (p6 .before .before .if1 .left)) _ (p6 .before .error-at .ensures) (passed _ (p6 .is-finite2 .ensures) (q .if2 .left)) d t
+    let v = q .before in
+    let z = v .before .before .before .before in
+    let h = z .before .before in
+    turn-goes (refine-turn (err h)) reached 60 (at h) (h .loop .evals) (h .loop .counter) _ (h .loop .inv .2) (omega arith) (z .chord-zero .result ∷ []) _
+    (goes-on (err h) (at h) (z .chord-zero .ensures) (passed _ (v .before .before .before .is-finite .ensures) (v .before .before .if1 .left)) _ (v .before .error-at .ensures) (passed _ (v .is-finite2 .ensures) (q .if2 .left)) d t
     (far (at h) _ (c .before .before .before .abs .ensures) (c .before .abs2 .ensures) (c .before .before .if3 .left) (c .if4 .left)))
 
 loop-again : tie.Need-loop-again Inv-loop μ-loop
-unfolding next negative
+unfolding negative
 loop-again c =
-    let p6 = c .before .before .before .before .before .before in
-    let h = p6 .before .before .before .before .before in
-    let y = p6 .before .error-at .result in
-    let p = next (at h) in (
+    let v = c .before .before .before .before .before .before in
+    let z = v .before .before .before .before in
+    let h = z .before .before in
+    let y = v .before .error-at .result in
+    let p = z .chord-zero .result in (
       omega arith,
       omega arith,
       ⊎-elim
@@ -79,27 +82,30 @@ returns c = let h = c .before in turns-end (refine-turn (err h)) reached 60 (at 
 returns-2 : tie.Need-returns-2 Inv-loop μ-loop
 unfolding next
 returns-2 c =
-    let h = c .before .before .before in
+    let z = c .before .before in
+    let h = z .before .before in
     turn-quits (refine-turn (err h)) reached 60 (at h) (h .loop .evals) (h .loop .counter) _ (h .loop .inv .2) (omega arith) (h .loop .x)
-    (no-next (err h) (at h) (failed _ (c .before .is-finite .ensures) (c .if1 .taken)))
+    (no-next (err h) (at h) (z .chord-zero .ensures) (failed _ (c .before .is-finite .ensures) (c .if1 .taken)))
 
 returns-3 : tie.Need-returns-3 Inv-loop μ-loop
 unfolding next
 returns-3 c =
     let v = c .before in
-    let h = v .before .before .before .before .before in
-    turn-leaves (refine-turn (err h)) reached 60 (at h) (h .loop .evals) (h .loop .counter) _ (h .loop .inv .2) (omega arith) (next (at h) ∷ []) (h .loop .x)
-    (no-value (err h) (at h) (passed _ (v .before .before .before .is-finite .ensures) (v .before .before .if1 .left)) _ (v .before .error-at .ensures) (failed _ (v .is-finite2 .ensures) (c .if2 .taken)))
+    let z = v .before .before .before .before in
+    let h = z .before .before in
+    turn-leaves (refine-turn (err h)) reached 60 (at h) (h .loop .evals) (h .loop .counter) _ (h .loop .inv .2) (omega arith) (z .chord-zero .result ∷ []) (h .loop .x)
+    (no-value (err h) (at h) (z .chord-zero .ensures) (passed _ (v .before .before .before .is-finite .ensures) (v .before .before .if1 .left)) _ (v .before .error-at .ensures) (failed _ (v .is-finite2 .ensures) (c .if2 .taken)))
 
 returns-4 : tie.Need-returns-4 Inv-loop μ-loop
 unfolding next
 returns-4 c =
     let q = c .before .before in
     let v = q .before in
-    let h = v .before .before .before .before .before in
+    let z = v .before .before .before .before in
+    let h = z .before .before in
     let y = v .before .error-at .result in
-    turn-leaves (refine-turn (err h)) reached 60 (at h) (h .loop .evals) (h .loop .counter) _ (h .loop .inv .2) (omega arith) (next (at h) ∷ []) (next (at h))
-    (is-near (err h) (at h) (passed _ (v .before .before .before .is-finite .ensures) (v .before .before .if1 .left)) y (v .before .error-at .ensures) (passed _ (v .is-finite2 .ensures) (q .if2 .left))
+    turn-leaves (refine-turn (err h)) reached 60 (at h) (h .loop .evals) (h .loop .counter) _ (h .loop .inv .2) (omega arith) (z .chord-zero .result ∷ []) (z .chord-zero .result)
+    (is-near (err h) (at h) (z .chord-zero .ensures) (passed _ (v .before .before .before .is-finite .ensures) (v .before .before .if1 .left)) y (v .before .error-at .ensures) (passed _ (v .is-finite2 .ensures) (q .if2 .left))
     (⊎-elim (λ w. near-left (at h) y (c .before .abs .ensures) (w .taken)) (λ w. near-right (at h) y (c .before .abs .ensures) (w .1 .ensures) (w .2 .taken)) (c .if3 .came)))
 
 pub refine-bracket-spec : {M : Type 1} → statement M
@@ -109,6 +115,7 @@ refine-bracket-spec =
     Inv-loop
     μ-loop
     loop-holds
+    (λ _ _. tt)
     (λ _ _. tt)
     (λ c κs. omega arith)
     (λ c. omega arith)
