@@ -13,11 +13,11 @@ use Rattle.answers.specs.Written.{Wrote}
 use Rattle.answers.specs.declared.Answer.{Answer}
 use Rattle.answers.proofs.Laws.{flatMap-append, written-long, flagged-long, next, nothing}
 
--- the k answers of the first i of the n members of l are written, where each member has at most so many
+-- the k answers of the first i of the n members of l are written, where each member has at most so many (17,600 is 44 × 400, the most that there are in family 6)
 pub record Turns {P : Type 0} (g : P → List Answer) (l : List P) (n each : ℕ) (a₀ : List Float) (f₀ : List ℕ) (a : List Float) (f : List ℕ) (k i : ℕ) : Type 0 where
   pub within : i ≤ n
   pub all : n ≡ length l
-  pub few : n ≤ 4
+  pub few : n ≤ 17600
   pub bound : k ≤ each * i
   pub wrote : Wrote (flatMap g (take i l)) a₀ f₀ a f k
 
@@ -49,9 +49,13 @@ module _ {P : Type 0} (g : P → List Answer) (l : List P) where
   unfolding flatMap
   one-more d i h = rw (add-one i, take-suc l i d h, flatMap-append, append-nil)
 
-  pub start : (n each : ℕ) (a : List Float) (f : List ℕ) → n ≡ length l → n ≤ 4 → Turns g l n each a f a f 0 0
+  pub start-long : (n each : ℕ) (a : List Float) (f : List ℕ) → n ≡ length l → n ≤ 17600 → Turns g l n each a f a f 0 0
   unfolding flatMap
-  start n each a f e h = record { within = omega arith; all = e; few = h; bound = omega arith; wrote = nothing a f }
+  start-long n each a f e h = record { within = omega arith; all = e; few = h; bound = omega arith; wrote = nothing a f }
+
+  -- over the answers of one subproblem
+  pub start : (n each : ℕ) (a : List Float) (f : List ℕ) → n ≡ length l → n ≤ 4 → Turns g l n each a f a f 0 0
+  start n each a f e h = start-long n each a f e (omega arith)
 
   -- a turn: p is the member with the number i, the rest of the lists begins at `at` and `on`, and came back as a′ and f′
   pub again : (d : P) (n each : ℕ) {a₀ a a′ : List Float} {f₀ f f′ : List ℕ} {k i at on r : ℕ} {p : P}
@@ -80,7 +84,7 @@ module _ {P : Type 0} (g : P → List Answer) (l : List P) where
       → ((x : P) → length (g x) ≤ each)
       → Turns g l n each a₀ f₀ a f k i
       → Wrote (g p) b₀ g₀ b g′ r
-      → (k + r ≤ each * i + each) × (i ≤ 4)
+      → (k + r ≤ each * i + each) × (i ≤ 17600)
   small-sum n each {p = p} small t w = (omega (arith, small p, w .all-counted, t .bound), omega (arith, t .within, t .few))
 
   pub end : (n each : ℕ) {a₀ a : List Float} {f₀ f : List ℕ} {k i : ℕ} → n ≤ i → Turns g l n each a₀ f₀ a f k i → Wrote (flatMap g l) a₀ f₀ a f k

@@ -162,7 +162,7 @@ impl Given {
 }
 
 impl Turned {
-    fn rotation(self) -> Matrix3
+    pub fn rotation(self) -> Matrix3
         ensures { λ r. ⌜ r ≡ turned-rotation self ⌝ }
     {
         let row1 = self.row1;

@@ -1,0 +1,3 @@
+pub mod Once
+pub mod Held
+pub mod AtMost44

@@ -1,0 +1,3 @@
+pub mod TwoParallel
+pub mod Given
+pub mod Pairs
