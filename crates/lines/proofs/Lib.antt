@@ -1,0 +1,5 @@
+pub mod Laws
+pub mod Printed
+pub mod AtStart
+pub mod Value
+pub mod Known
