@@ -1,2 +1,3 @@
 pub mod Accepted
 pub mod Lent
+pub mod Demand3

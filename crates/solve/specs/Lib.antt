@@ -1,2 +1,3 @@
 pub mod Judge
 pub mod Solve
+pub mod Demand3
