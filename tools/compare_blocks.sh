@@ -2,9 +2,9 @@
 # Holds the solver program against the reference program, line by line, on blocks of every kind and
 # family. Needs cargo and python3, and rt for target/bin/ik.
 #   tools/compare_blocks.sh COUNT [SEED]
-# COUNT blocks in all, evenly over kinds and families; SEED is 1 unless given. The environment variable
-# IK_PROGRAM names another solver program, with its arguments. Blocks and lines are kept for one chunk
-# at a time. Prints a table; exit status 1 where a line differs.
+# COUNT blocks, evenly over kinds and families, and 1,100 of family 6 with long lists; SEED is 1 unless
+# given. The environment variable IK_PROGRAM names another solver program, with its arguments. Blocks and
+# lines are kept for one chunk at a time. Prints a table; exit status 1 where a line differs.
 set -euo pipefail
 cd "$(dirname "$0")/.."
 [ $# -ge 1 ] || { sed -n '2,7s/^# *//p' "$0" >&2; exit 2; }
@@ -68,7 +68,7 @@ compare_all() { # KIND FAMILY COUNT [N]
     done
 }
 
-echo "$count blocks, seed $seed, ${program[*]}"
+echo "$count blocks, seed $seed, and 1100 more with n = 400; ${program[*]}"
 runs=$((6 * ${#kinds[@]})) run=0
 : >"$dir/sums"
 for family in 1 2 3 4 5 6; do
@@ -86,6 +86,8 @@ for family in 1 2 3 4 5 6; do
         compare_all "$kind" 6 "$rest" 3
     done
 done
+# Two of these have more than 1,024 answers, which no other run is sure to have.
+compare hostile 6 77 1100 400
 
 awk '
     BEGIN { format = "%-12s %6s %9s %9s %9s %9s %9s %11s %7s\n"

@@ -365,6 +365,11 @@ class WithOracle(unittest.TestCase):
                 size = max(1.0, *(abs(x) for x in numbers[49:52]))
                 self.assertLess(max(abs(x - y) for x, y in zip(got, numbers[40:52])) / size, 1e-12)
 
+    def test_the_stored_lines_of_the_example(self):
+        folder = blocks.ROOT / "tools"
+        given = sheet.parse((folder / "example.sheet").read_text()).to_blocks()
+        self.assertEqual(self.oracle("blocks", given=given), (folder / "example.lines").read_bytes())
+
     def test_the_examples(self):
         program = f"{ORACLE} blocks"
         for name in ("example.sheet", "example6.sheet"):
