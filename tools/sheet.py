@@ -58,6 +58,11 @@ OFFSETS = [f"p{i}" for i in range(7)]
 EQUAL_AXES = {1: ["h2", "h3"], 4: ["h2", "h3", "h4"], 5: ["h2", "h3", "h4"], 6: ["h2", "h3"]}
 ZERO_OFFSETS = {1: ["p4", "p5"], 2: ["p1", "p4", "p5"], 3: ["p4", "p5"], 4: ["p5"]}
 
+# Neighbouring axes that must not meet: the solver loses answers there (docs/DIFFERENCES.md). In families
+# 5 and 6 that is so where they meet at a right angle.
+MUST_NOT_MEET = {3: [1, 2], 5: [5], 6: [4]}
+SQUARELY = (5, 6)
+
 REFUSALS = {
     1: "the last block of the input is shorter than 512 bytes",
     2: "the block is damaged: its check word is not the sum of the others",
@@ -299,6 +304,23 @@ def arm_notes(sheet):
             yield f"family {sheet.family} is for arms with {name} = 0 0 0"
 
 
+def meet(arm, i):
+    """Whether axes i and i + 1 meet: the offset between them has no part across both."""
+    (a, b, c), (d, e, f), offset = arm[f"h{i}"], arm[f"h{i + 1}"], arm[f"p{i}"]
+    across = [b * f - c * e, c * d - a * f, a * e - b * d]
+    return abs(sum(x * y for x, y in zip(across, offset))) <= 1e-9 * math.hypot(*offset)
+
+
+def meeting_notes(sheet):
+    for i in MUST_NOT_MEET.get(sheet.family, []):
+        first, second = sheet.arm[f"h{i}"], sheet.arm[f"h{i + 1}"]
+        slant = abs(sum(x * y for x, y in zip(first, second)))
+        if slant > 1 - 1e-9:
+            yield f"axes {i} and {i + 1} are parallel, which is not for family {sheet.family}"
+        elif meet(sheet.arm, i) and (sheet.family not in SQUARELY or slant < 1e-9):
+            yield f"axes {i} and {i + 1} meet, and family {sheet.family} loses answers there (see README.md)"
+
+
 def pose_notes(sheet, pose):
     entries = sheet.pose_numbers(pose)
     rows = [entries[0:3], entries[3:6], entries[6:9]]
@@ -313,7 +335,8 @@ def pose_notes(sheet, pose):
 
 
 def notes(sheet):
-    return [*arm_notes(sheet), *(note for pose in sheet.poses for note in pose_notes(sheet, pose))]
+    of_poses = (note for pose in sheet.poses for note in pose_notes(sheet, pose))
+    return [*arm_notes(sheet), *meeting_notes(sheet), *of_poses]
 
 
 # Showing what the program printed.

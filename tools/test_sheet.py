@@ -219,6 +219,29 @@ class Messages(unittest.TestCase):
         self.assertIn("mirror", mirror[0])
 
 
+    def meeting(self, family, axes, **offsets):
+        """The notes of an arm with axes along x, y and z and offsets across all of them but those given."""
+        along = {"x": "1 0 0", "y": "0 1 0", "z": "0 0 1", "s": "0 0.6 0.8"}
+        lines = [f"family {family}"] + (["n 1"] if family == 6 else [])
+        lines += [f"h{i} {along[c]}" for i, c in enumerate(axes, 1)]
+        for name in sheet.OFFSETS:
+            zero = name in sheet.ZERO_OFFSETS.get(family, [])
+            lines.append(f"{name} " + offsets.get(name, "0 0 0" if zero else "0.1 0.2 0.3"))
+        return sheet.notes(sheet.parse("\n".join(lines) + "\n" + POSE))
+
+    def test_notes_of_axes_that_meet(self):
+        self.assertEqual(self.meeting(3, "zysxyx"), [])
+        self.assertIn("axes 2 and 3 meet", self.meeting(3, "zysxyx", p2="0 0.02 0.56")[0])
+        self.assertIn("axes 1 and 2 meet", self.meeting(3, "zysxyx", p1="0 0.1 0.2")[0])
+        self.assertIn("axes 2 and 3 are parallel", self.meeting(3, "zyyxyx")[0])
+        self.assertEqual(self.meeting(5, "zxxxzx"), [])
+        self.assertIn("axes 5 and 6 meet", self.meeting(5, "zxxxzx", p5="0.04 0 0.03")[0])
+        self.assertEqual(self.meeting(6, "zyyxyx"), [])
+        self.assertIn("axes 4 and 5 meet", self.meeting(6, "zyyxyx", p4="0.47 0.03 0")[0])
+        self.assertEqual(self.meeting(6, "zyyxsx", p4="0.47 0 0"), self.meeting(6, "zyyxyx", p4="0.47 0 0"))
+        self.assertEqual(self.meeting(6, "zyysyx", p4="0 0.1 0.2"), [])
+
+
 def line(angles, flag):
     return " ".join(struct.pack(">d", a).hex() for a in angles) + f" {flag}"
 
