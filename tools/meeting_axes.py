@@ -7,6 +7,10 @@ For each family, arms of two sorts: with random axes, and with axes along x, y a
 neighbouring axes meet (their offset has no part across both), all else is random. COUNT (200) arms for
 each row, each with one pose made from random angles; family 6 with n = 200. Found is a pose with all six
 of its own angles, within 1e-6 modulo a turn, in an unflagged answer. Needs target/bin/ik, or IK_PROGRAM.
+
+The last rows take the arms of families 3 and 5 that lose answers, write the same arm with the offset
+between the meeting axes zero, and give it to family 2 or 4. Where p1 = s h1 + t h2, the arm with
+p0 + s h1, p1 = 0 and p2 + t h2 has the same poses, for a turn about an axis keeps what lies along it.
 """
 
 import math
@@ -40,28 +44,37 @@ def random_arm(rng, family, square):
     return arm
 
 
+def plus(v, s, axis):
+    return [x + s * y for x, y in zip(v, axis)]
+
+
 def let_meet(rng, arm, i):
-    """Axes i and i + 1 meet: the offset between them is a sum of parts along them."""
+    """Axes i and i + 1 meet: the offset between them is a sum of parts along them. Gives the same arm
+    with that offset zero."""
     s, t = rng.uniform(-0.5, 0.5), rng.uniform(-0.5, 0.5)
-    arm[f"p{i}"] = [s * x + t * y for x, y in zip(arm[f"h{i}"], arm[f"h{i + 1}"])]
+    one, two = arm[f"h{i}"], arm[f"h{i + 1}"]
+    arm[f"p{i}"] = plus(plus([0.0, 0.0, 0.0], s, one), t, two)
+    before, after = f"p{i - 1}", f"p{i + 1}"
+    moved = {before: plus(arm[before], s, one), f"p{i}": [0.0, 0.0, 0.0], after: plus(arm[after], t, two)}
+    return {**arm, **moved}
 
 
 def same(one, other):
     return all(abs((x - y + math.pi) % (2 * math.pi) - math.pi) < NEAR for x, y in zip(one, other))
 
 
-def row(words, family, square, i, count, seed):
-    """Poses found, poses with an empty list, poses with a NaN."""
+def row(words, family, square, i, count, seed, instead=None):
+    """Poses found, poses with an empty list, poses with a NaN; by another family instead, if given."""
     rng = random.Random(f"{seed} {family} {square} {i}")
     data, made = b"", []
     for _ in range(count):
         arm = random_arm(rng, family, square)
-        if i:
-            let_meet(rng, arm, i)
+        moved = let_meet(rng, arm, i) if i else arm
         angles = [rng.uniform(-math.pi, math.pi) for _ in range(6)]
         rotation, place = sheet.forward(arm, angles)
-        numbers = [x for name in sheet.AXES + sheet.OFFSETS for x in arm[name]]
-        data += blocks.make(family, 200 if family == 6 else 0, numbers, [*sum(rotation, []), *place])
+        numbers = [x for name in sheet.AXES + sheet.OFFSETS for x in (moved if instead else arm)[name]]
+        n = 200 if family == 6 else 0
+        data += blocks.make(instead or family, n, numbers, [*sum(rotation, []), *place])
         made.append(angles)
     results = sheet.read_results(blocks.run(words, data), count)
     found = sum(any(not f and same(q, a) for q, f in r.angles) for a, r in zip(made, results))
@@ -84,12 +97,13 @@ def main(arguments):
     count, seed = (int(arguments[0]) if arguments else 200), (int(arguments[1]) if len(arguments) > 1 else 1)
     words = blocks.command()
     print(f"{'family':>6} {'axes':>8} {'meet':>6} {'poses':>6} {'found':>6} {'empty':>6} {'NaN':>6}")
-    for family in range(1, 7):
-        for square in (False, True):
-            for i in rows(family):
-                found, empty, nan = row(words, family, square, i, count, seed)
-                kind, meet = ("square" if square else "random"), (f"{i}, {i + 1}" if i else "none")
-                print(f"{family:>6} {kind:>8} {meet:>6} {count:>6} {found:>6} {empty:>6} {nan:>6}", flush=True)
+    cases = [(family, square, i, None) for family in range(1, 7) for square in (False, True) for i in rows(family)]
+    cases += [(family, square, i, other) for family, i, other in ((3, 1, 2), (5, 5, 4)) for square in (False, True)]
+    for family, square, i, instead in cases:
+        found, empty, nan = row(words, family, square, i, count, seed, instead)
+        name = f"{family} as {instead}" if instead else f"{family}"
+        kind, meet = ("square" if square else "random"), (f"{i}, {i + 1}" if i else "none")
+        print(f"{name:>6} {kind:>8} {meet:>6} {count:>6} {found:>6} {empty:>6} {nan:>6}", flush=True)
     return 0
 
 
