@@ -21,7 +21,7 @@ add() { # KIND FAMILY SEED COUNT [N]
 
 # Appends the block at a place of a run, or its first bytes.
 add_one() { # NAME FAMILY N PLACE BYTES KIND SEED
-    "$oracle" generate "$6" "$2" "$7" $(($4 + 2)) "$3" | tail -c +$((512 * $4 + 1)) | head -c "$5" >>"$dir/in"
+    "$oracle" generate "$6" "$2" "$7" $(($4 + 1)) "$3" | tail -c 512 | head -c "$5" >>"$dir/in"
     echo "$1 $2 $3" >>"$dir/list"
 }
 

@@ -356,14 +356,14 @@ ANSWER = re.compile(r"((?:[0-9a-f]{16} ){6})([01])")
 
 def read_results(lines, count):
     """The results of `count` blocks, or BadLines."""
-    results, lines = [], list(lines)
-    while lines:
-        head = HEAD.fullmatch(lines.pop(0))
+    results, lines = [], iter(lines)
+    for text in lines:
+        head = HEAD.fullmatch(text)
         if not head or int(head[1]) != len(results):
             raise BadLines(f"no line of block {len(results)} where one should be")
         result = Result(int(head[2]), int(head[3]), int(head[4]), [])
         for _ in range(min(result.answers, blocks.ROOM)):
-            line = ANSWER.fullmatch(lines.pop(0) if lines else "")
+            line = ANSWER.fullmatch(next(lines, ""))
             if not line:
                 raise BadLines(f"an answer of block {len(results)} is missing")
             angles = [struct.unpack(">d", bytes.fromhex(word))[0] for word in line[1].split()]
