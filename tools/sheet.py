@@ -1,0 +1,498 @@
+#!/usr/bin/env python3
+"""Solves a sheet: a text file with an arm and poses. Shows the joint angles in degrees.
+
+    tools/sheet.py [--lines] [--blocks FILE] [--program COMMAND] SHEET
+
+  SHEET              the file to read; - is standard input
+  --lines            show the program's own lines instead of the tables
+  --blocks FILE      write the blocks that the program is given to FILE, too
+  --program COMMAND  the solver program with its arguments; else the environment variable IK_PROGRAM,
+                     else target/bin/ik
+
+Exit status: 0 every pose was given to the program and its result shown (a refusal is a result);
+1 the program could not be run; 2 the sheet or the command line is wrong.
+
+A sheet has one thing on each line. '#' starts a comment. Numbers are written with a decimal point;
+the solver gets the nearest f64 of what is written. Lengths have any one unit.
+
+  family F           1 to 6, or the name: 1 spherical_two_parallel, 2 spherical_two_intersecting,
+                     3 spherical, 4 three_parallel_two_intersecting, 5 three_parallel, 6 two_parallel
+  n N                family 6 alone: the number of steps of its search, 1 to 400
+  h1 X Y Z .. h6     the axes, at zero angles, in base coordinates; length 1
+  p0 X Y Z .. p6     the offsets: p0 from the base to a point of axis 1, p1 from there to a point of
+                     axis 2, .. p6 from axis 6 to the tool
+  pose NAME          starts a pose; its name is for the table and may be left out. Then either
+    row X Y Z          three times: the rotation by rows
+    place X Y Z        where the tool is
+                     or
+    rpy ROLL PITCH YAW in degrees: the rotation Rz(YAW) Ry(PITCH) Rx(ROLL), that is, first ROLL about
+                       the base's x, then PITCH about its y, then YAW about its z; columns are the
+                       tool's axes in base coordinates. Computed here, so rounded
+    place X Y Z
+                     or
+    from angles A1 .. A6   in degrees: the pose that these joint angles give the arm. A help for a
+                       first try; computed here, not by the proved program
+"""
+
+import argparse
+import dataclasses
+import math
+import re
+import struct
+import sys
+
+import blocks
+
+FAMILIES = {
+    1: "spherical_two_parallel",
+    2: "spherical_two_intersecting",
+    3: "spherical",
+    4: "three_parallel_two_intersecting",
+    5: "three_parallel",
+    6: "two_parallel",
+}
+AXES = [f"h{i}" for i in range(1, 7)]
+OFFSETS = [f"p{i}" for i in range(7)]
+
+# What each family's solver takes for granted of an arm, and does not look at.
+EQUAL_AXES = {1: ["h2", "h3"], 4: ["h2", "h3", "h4"], 5: ["h2", "h3", "h4"], 6: ["h2", "h3"]}
+ZERO_OFFSETS = {1: ["p4", "p5"], 2: ["p1", "p4", "p5"], 3: ["p4", "p5"], 4: ["p5"]}
+
+# Neighbouring axes that must not meet: the solver loses answers there (docs/DIFFERENCES.md). In families
+# 5 and 6 that is so where they meet at a right angle.
+MUST_NOT_MEET = {3: [1, 2], 5: [5], 6: [4]}
+SQUARELY = (5, 6)
+
+REFUSALS = {
+    1: "the last block of the input is shorter than 512 bytes",
+    2: "the block is damaged: its check word is not the sum of the others",
+    3: "a reserved byte of the block is not zero",
+    4: "the family is not 1 to 6",
+    5: "the arm is not 39 numbers",
+    6: "the pose is not 12 numbers",
+    7: "n does not fit the family: 0 for families 1 to 5, 1 to 400 for family 6",
+    8: "a number of the arm or the pose is infinite or not a number",
+    9: "there are more answers than the program has space for",
+}
+NUMBER = re.compile(r"[+-]?([0-9]+\.?[0-9]*|\.[0-9]+)([eE][+-]?[0-9]+)?")
+FLAGGED = "nearest only (least squares)"
+
+
+class SheetError(Exception):
+    """What is wrong with a sheet, and on which line."""
+
+    def __init__(self, line, text):
+        super().__init__(f"line {line}: {text}")
+
+
+class BadLines(Exception):
+    """The program printed something else than the lines of these blocks."""
+
+
+@dataclasses.dataclass
+class Pose:
+    name: str
+    line: int
+    rows: list = dataclasses.field(default_factory=list)
+    rpy: list = None
+    place: list = None
+    angles: list = None
+
+
+@dataclasses.dataclass
+class Sheet:
+    family: int = None
+    n: int = None
+    arm: dict = dataclasses.field(default_factory=dict)
+    poses: list = dataclasses.field(default_factory=list)
+    where: dict = dataclasses.field(default_factory=dict)  # the line of each word that may stand once
+
+    def arm_numbers(self):
+        return [x for name in AXES + OFFSETS for x in self.arm[name]]
+
+    def pose_numbers(self, pose):
+        """The rotation by rows, then the place."""
+        if pose.angles:
+            rotation, place = forward(self.arm, [math.radians(a) for a in pose.angles])
+        else:
+            rotation, place = pose.rows or rotation_of_rpy(pose.rpy), pose.place
+        return [x for row in rotation for x in row] + place
+
+    def to_blocks(self):
+        arm = self.arm_numbers()
+        made = (blocks.make(self.family, self.n, arm, self.pose_numbers(p)) for p in self.poses)
+        return b"".join(made)
+
+
+# Small vectors and matrices: lists of numbers, and lists of rows.
+
+
+def product(a, b):
+    return [[sum(a[i][k] * b[k][j] for k in range(3)) for j in range(3)] for i in range(3)]
+
+
+def turned(a, v):
+    return [sum(a[i][k] * v[k] for k in range(3)) for i in range(3)]
+
+
+def about(axis, angle):
+    """The rotation about an axis of any length."""
+    length = math.hypot(*axis)
+    x, y, z = (part / length for part in axis) if length else (math.nan,) * 3
+    hat = [[0, -z, y], [z, 0, -x], [-y, x, 0]]
+    twice = product(hat, hat)
+    s, c = math.sin(angle), 1 - math.cos(angle)
+    return [[(i == j) + s * hat[i][j] + c * twice[i][j] for j in range(3)] for i in range(3)]
+
+
+def rotation_of_rpy(rpy):
+    roll, pitch, yaw = (math.radians(a) for a in rpy)
+    return product(about([0, 0, 1], yaw), product(about([0, 1, 0], pitch), about([1, 0, 0], roll)))
+
+
+def forward(arm, angles):
+    """Rotation and place of the tool at these angles in radians."""
+    rotation = [[1.0, 0.0, 0.0], [0.0, 1.0, 0.0], [0.0, 0.0, 1.0]]
+    place = list(arm["p0"])
+    for axis, offset, angle in zip(AXES, OFFSETS[1:], angles):
+        rotation = product(rotation, about(arm[axis], angle))
+        place = [x + y for x, y in zip(place, turned(rotation, arm[offset]))]
+    return rotation, place
+
+
+# Reading a sheet.
+
+
+def number(line, text):
+    if not NUMBER.fullmatch(text):
+        hint = " (write a point, not a comma)" if "," in text else ""
+        raise SheetError(line, f"'{text}' is not a number{hint}")
+    value = float(text)
+    if math.isinf(value):
+        raise SheetError(line, f"'{text}' is too large")
+    return value
+
+
+def numbers(line, word, texts, count):
+    if len(texts) != count:
+        raise SheetError(line, f"{word} takes {count} numbers, and here are {len(texts)}")
+    return [number(line, text) for text in texts]
+
+
+def whole(line, word, texts):
+    if len(texts) != 1:
+        raise SheetError(line, f"{word} takes one number, and here are {len(texts)}")
+    if not re.fullmatch(r"[0-9]{1,9}", texts[0]):
+        raise SheetError(line, f"{word} takes a whole number, not '{texts[0]}'")
+    return int(texts[0])
+
+
+def read_family(sheet, line, texts):
+    name = "_".join(texts).lower().replace("-", "_")
+    found = [i for i, known in FAMILIES.items() if name in (known, str(i))]
+    if not found:
+        known = ", ".join(f"{i} {text}" for i, text in FAMILIES.items())
+        raise SheetError(line, f"'{' '.join(texts)}' is no family; the families are {known}")
+    sheet.family = found[0]
+
+
+def read_n(sheet, line, texts):
+    sheet.n = whole(line, "n", texts)
+
+
+def read_pose_line(pose, line, word, texts):
+    """A line that stands below a pose."""
+    if word == "row":
+        if len(pose.rows) == 3:
+            raise SheetError(line, "a pose has three rows, and this is the fourth")
+        pose.rows.append(numbers(line, word, texts, 3))
+        return
+    if word == "from":
+        if texts[:1] != ["angles"]:
+            raise SheetError(line, "'from' is followed by 'angles' and six angles in degrees")
+        word, texts = "angles", texts[1:]
+    if getattr(pose, word) is not None:
+        raise SheetError(line, f"this pose has '{word}' already")
+    setattr(pose, word, numbers(line, word, texts, 6 if word == "angles" else 3))
+
+
+def read_line(sheet, line, word, texts):
+    if word == "pose":
+        name = " ".join(texts) or f"number {len(sheet.poses) + 1}"
+        sheet.poses.append(Pose(name, line))
+    elif word in ("row", "rpy", "place", "from"):
+        if not sheet.poses:
+            raise SheetError(line, f"'{word}' belongs to a pose, and no line 'pose' stands above it")
+        read_pose_line(sheet.poses[-1], line, word, texts)
+    elif word in ("family", "n") or word in AXES + OFFSETS:
+        if word in sheet.where:
+            raise SheetError(line, f"{word} stands on line {sheet.where[word]} already")
+        sheet.where[word] = line
+        if word == "family":
+            read_family(sheet, line, texts)
+        elif word == "n":
+            read_n(sheet, line, texts)
+        else:
+            sheet.arm[word] = numbers(line, word, texts, 3)
+    else:
+        raise SheetError(line, f"unknown word '{word}'")
+
+
+def judge_n(sheet, last):
+    """n is asked for in family 6 and nowhere else."""
+    line = sheet.where.get("n", last)
+    if sheet.family != 6:
+        if sheet.n is not None:
+            raise SheetError(line, f"n is for family 6 alone, and this is family {sheet.family}")
+        sheet.n = 0
+    elif sheet.n is None:
+        raise SheetError(last, "family 6 needs n, from 1 to 400 (the published solver has n 200)")
+    elif not 1 <= sheet.n <= 400:
+        raise SheetError(line, f"n is {sheet.n}, and must be 1 to 400")
+
+
+def judge_pose(pose):
+    """A pose has angles alone, or a place and just one sort of rotation."""
+    others = pose.rows or pose.rpy or pose.place
+    if pose.angles and others:
+        raise SheetError(pose.line, f"pose '{pose.name}' has angles and a rotation or place: take one")
+    if pose.angles:
+        return
+    if pose.rows and pose.rpy:
+        raise SheetError(pose.line, f"pose '{pose.name}' has rows and rpy: take one")
+    if not pose.rows and not pose.rpy:
+        raise SheetError(pose.line, f"pose '{pose.name}' has no rotation: three lines 'row', or 'rpy'")
+    if pose.rows and len(pose.rows) != 3:
+        raise SheetError(pose.line, f"pose '{pose.name}' has {len(pose.rows)} rows, and needs three")
+    if not pose.place:
+        raise SheetError(pose.line, f"pose '{pose.name}' has no place")
+
+
+def parse(text):
+    """The sheet of a text, whole and in order, or a SheetError."""
+    sheet, last = Sheet(), 1
+    for last, content in enumerate(text.splitlines(), 1):
+        words = content.split("#")[0].split()
+        if words:
+            read_line(sheet, last, words[0].lower(), words[1:])
+    if sheet.family is None:
+        raise SheetError(last, "the sheet ends, and has no family")
+    missing = [name for name in AXES + OFFSETS if name not in sheet.arm]
+    if missing:
+        raise SheetError(last, f"the sheet ends, and of the arm is missing: {', '.join(missing)}")
+    judge_n(sheet, last)
+    if not sheet.poses:
+        raise SheetError(last, "the sheet ends, and has no pose")
+    for pose in sheet.poses:
+        judge_pose(pose)
+    return sheet
+
+
+# Notes: things that the solver takes as they are, and that are most often a slip of the pen.
+
+
+def arm_notes(sheet):
+    for name in AXES:
+        length = math.hypot(*sheet.arm[name])
+        if abs(length - 1) > 1e-9:
+            yield f"{name} has length {length:.6g}, not 1"
+    equal = EQUAL_AXES.get(sheet.family, [])
+    if any(sheet.arm[name] != sheet.arm[equal[0]] for name in equal):
+        yield f"family {sheet.family} is for arms with {' = '.join(equal)}"
+    for name in ZERO_OFFSETS.get(sheet.family, []):
+        if any(sheet.arm[name]):
+            yield f"family {sheet.family} is for arms with {name} = 0 0 0"
+
+
+def meet(arm, i):
+    """Whether axes i and i + 1 meet: the offset between them has no part across both."""
+    (a, b, c), (d, e, f), offset = arm[f"h{i}"], arm[f"h{i + 1}"], arm[f"p{i}"]
+    across = [b * f - c * e, c * d - a * f, a * e - b * d]
+    return abs(sum(x * y for x, y in zip(across, offset))) <= 1e-9 * math.hypot(*offset)
+
+
+def meeting_notes(sheet):
+    for i in MUST_NOT_MEET.get(sheet.family, []):
+        first, second = sheet.arm[f"h{i}"], sheet.arm[f"h{i + 1}"]
+        slant = abs(sum(x * y for x, y in zip(first, second)))
+        if slant > 1 - 1e-9:
+            yield f"axes {i} and {i + 1} are parallel, which is not for family {sheet.family}"
+        elif meet(sheet.arm, i) and (sheet.family not in SQUARELY or slant < 1e-9):
+            yield f"axes {i} and {i + 1} meet, and family {sheet.family} loses answers there (see README.md)"
+
+
+def pose_notes(sheet, pose):
+    entries = sheet.pose_numbers(pose)
+    rows = [entries[0:3], entries[3:6], entries[6:9]]
+    square = product(rows, [list(column) for column in zip(*rows)])
+    off = max(abs(square[i][j] - (i == j)) for i in range(3) for j in range(3))
+    (a, b, c), (d, e, f), (g, h, i) = rows
+    determinant = a * (e * i - f * h) - b * (d * i - f * g) + c * (d * h - e * g)
+    if not off < 1e-6:
+        yield f"the rotation of pose '{pose.name}' is none: its rows are off by {off:.2g}"
+    elif determinant < 0:
+        yield f"the rotation of pose '{pose.name}' is none: it is a mirror image"
+
+
+def notes(sheet):
+    of_poses = (note for pose in sheet.poses for note in pose_notes(sheet, pose))
+    return [*arm_notes(sheet), *meeting_notes(sheet), *of_poses]
+
+
+# Showing what the program printed.
+
+
+@dataclasses.dataclass
+class Result:
+    refusal: int
+    answers: int
+    evaluations: int
+    angles: list  # of six angles in radians and a flag
+
+
+HEAD = re.compile(r"block (\d+) refusal (\d+) answers (\d+) evals (\d+)")
+ANSWER = re.compile(r"((?:[0-9a-f]{16} ){6})([01])")
+
+
+def read_results(lines, count):
+    """The results of `count` blocks, or BadLines."""
+    results, lines = [], iter(lines)
+    for text in lines:
+        head = HEAD.fullmatch(text)
+        if not head or int(head[1]) != len(results):
+            raise BadLines(f"no line of block {len(results)} where one should be")
+        result = Result(int(head[2]), int(head[3]), int(head[4]), [])
+        for _ in range(min(result.answers, blocks.ROOM)):
+            line = ANSWER.fullmatch(next(lines, ""))
+            if not line:
+                raise BadLines(f"an answer of block {len(results)} is missing")
+            angles = [struct.unpack(">d", bytes.fromhex(word))[0] for word in line[1].split()]
+            result.angles.append((angles, line[2] == "1"))
+        results.append(result)
+    if len(results) != count:
+        raise BadLines(f"{count} blocks went in, and lines of {len(results)} came out")
+    return results
+
+
+def degrees(angle):
+    text = "NaN" if math.isnan(angle) else f"{math.degrees(angle):.4f}"
+    return "0.0000" if text == "-0.0000" else text
+
+
+def distance(sheet, pose, angles):
+    """How far the tool is from the pose at these angles: place, and degrees of turning."""
+    rotation, place = forward(sheet.arm, angles)
+    wanted = sheet.pose_numbers(pose)
+    away = math.dist(place, wanted[9:])
+    gap = math.hypot(*(rotation[i][j] - wanted[3 * i + j] for i in range(3) for j in range(3)))
+    # Two rotations that are an angle t apart differ by 2 sqrt(2) sin(t / 2) in this norm.
+    return away, math.degrees(2 * math.asin(min(1, gap / math.sqrt(8))))
+
+
+def answer_line(sheet, pose, place, angles, flag):
+    columns = "".join(f"{degrees(angle):>11}" for angle in angles)
+    if not all(math.isfinite(angle) for angle in angles):
+        return f"{place:>6}{columns}   no answer: not a number" + (f"; {FLAGGED}" if flag else "")
+    away, turn = distance(sheet, pose, angles)
+    remark = f"   {FLAGGED}" if flag else ""
+    return f"{place:>6}{columns}{away:>11.1e}{turn:>10.1e}{remark}"
+
+
+def counted(count, one, many):
+    return f"{count:,} {one if count == 1 else many}"
+
+
+def table(sheet, pose, place, result):
+    """The lines of one pose."""
+    head = f"Pose {place + 1}, {pose.name}: "
+    if result.refusal not in (0, 9):
+        yield head + f"refused ({result.refusal}): {REFUSALS[result.refusal]}"
+        return
+    head += counted(result.answers, "answer", "answers")
+    if sheet.family == 6:
+        head += f", {counted(result.evaluations, 'evaluation', 'evaluations')} of the search error"
+    yield head
+    if result.refusal == 9:
+        yield f"  refused (9): {REFUSALS[9]}; the first {len(result.angles):,} are here"
+    if result.angles:
+        names = "".join(f"{'q' + str(i):>11}" for i in range(1, 7))
+        yield f"{'':>6}{names}{'place off':>11}{'turn off':>10}"
+    for i, (angles, flag) in enumerate(result.angles):
+        yield answer_line(sheet, pose, i + 1, angles, flag)
+
+
+def show(sheet, results):
+    title = f"Family {sheet.family}, {FAMILIES[sheet.family]}"
+    title += f", n = {sheet.n}" if sheet.family == 6 else ""
+    yield f"{title}. Angles in degrees."
+    for place, (pose, result) in enumerate(zip(sheet.poses, results)):
+        yield ""
+        yield from table(sheet, pose, place, result)
+    if any(result.angles for result in results):
+        yield ""
+        yield "place off, turn off: how far an answer's own pose is from the one asked for, in the"
+        yield "sheet's unit and in degrees, as computed by this script."
+
+
+# The command line.
+
+
+def read_text(name):
+    try:
+        data = sys.stdin.buffer.read() if name == "-" else open(name, "rb").read()
+        return data.decode("utf-8-sig")
+    except OSError as error:
+        raise SystemExit(fail(2, f"{name}: {error.strerror}")) from None
+    except UnicodeDecodeError:
+        raise SystemExit(fail(2, f"{name}: this is no text file")) from None
+
+
+def fail(status, text):
+    print(f"sheet: {text}", file=sys.stderr)
+    return status
+
+
+def arguments(words):
+    if set(words) & {"-h", "--help"}:
+        print(__doc__, end="")
+        sys.exit(0)
+    parser = argparse.ArgumentParser(prog="tools/sheet.py", add_help=False, epilog="--help says more")
+    parser.add_argument("sheet")
+    parser.add_argument("--lines", action="store_true")
+    parser.add_argument("--blocks", metavar="FILE")
+    parser.add_argument("--program", metavar="COMMAND")
+    return parser.parse_args(words)
+
+
+def solve(sheet, options):
+    data = sheet.to_blocks()
+    if options.blocks:
+        with open(options.blocks, "wb") as out:
+            out.write(data)
+    return blocks.run(blocks.command(options.program), data)
+
+
+def main(words):
+    options = arguments(words)
+    text = read_text(options.sheet)
+    try:
+        sheet = parse(text)
+    except SheetError as error:
+        return fail(2, f"{options.sheet}, {error}")
+    for note in notes(sheet):
+        print(f"note: {note}; the solver takes it as it is", file=sys.stderr)
+    try:
+        lines = solve(sheet, options)
+        shown = lines if options.lines else show(sheet, read_results(lines, len(sheet.poses)))
+        print("\n".join(shown))
+    except (blocks.NoProgram, BadLines) as error:
+        return fail(1, str(error))
+    except BrokenPipeError:
+        return 1
+    except OSError as error:
+        return fail(1, str(error))
+    return 0
+
+
+if __name__ == "__main__":
+    sys.exit(main(sys.argv[1:]))
