@@ -9,7 +9,7 @@ use Rattle.linear.specs.declared.Vector3.{Vector3}
 use Rattle.solutionset.specs.TripleSet4.{get-all}
 use Rattle.solutionset.specs.declared.Triple.{Triple}
 use Rattle.solutionset.specs.declared.TripleSet4.{TripleSet4}
-use Rattle.subproblems.specs.Subproblem5.{subproblem5}
+use Rattle.subproblem5.specs.Subproblem5.{subproblem5}
 use Rattle.kinematics.specs.declared.Kinematics.{Kinematics}
 use Rattle.answers.specs.declared.Answer.{Answer}
 use Rattle.families_shared.specs.Place.{p-16}

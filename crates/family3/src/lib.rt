@@ -18,7 +18,7 @@ ghost use Rattle.family3.specs.Spherical.{t123, at-q123, spherical};
 fn t123(kin: Kinematics, p_16: Vector3) -> TripleSet4
     ensures { λ r. ⌜ r ≡ t123 kin «p_16» ⌝ }
 {
-    subproblems::subproblem5(
+    subproblem5::subproblem5(
         linear::neg(kin.p1),
         p_16,
         kin.p2,

@@ -11,7 +11,7 @@ use Rattle.solutionset.specs.PairSet4.{get-all}
 use Rattle.solutionset.specs.declared.Pair.{Pair}
 use Rattle.solutionset.specs.declared.PairSet4.{PairSet4}
 use Rattle.subproblems.specs.Subproblem1.{subproblem1-within}
-use Rattle.subproblems.specs.Subproblem6.{subproblem6}
+use Rattle.subproblem6.specs.Subproblem6.{subproblem6}
 use Rattle.subproblems.specs.declared.Solved1.{Solved1}
 use Rattle.kinematics.specs.declared.Kinematics.{Kinematics}
 use Rattle.answers.specs.declared.Answer.{Answer}

@@ -32,7 +32,7 @@ fn theta15(r_06: Matrix3, kin: Kinematics, p_16: Vector3) -> PairSet4
         linear::apply(r_06, kin.h6),
         linear::neg(kin.h6),
     ];
-    subproblems::subproblem6(
+    subproblem6::subproblem6(
         [h2, h2, h2, h2],
         [h1, h5, h1, h5],
         p_sp,
