@@ -10,7 +10,7 @@ use solutionset::SinCosSet2;
 use solutionset::Triple;
 use solutionset::TripleSet4;
 use subproblems::Solved2;
-use subproblems::SolvedSinCos2;
+use subproblems_sc::SolvedSinCos2;
 ghost use Prim.Native.Nat.{_+_, _≤_};
 
 fn triple(args: &[f64; 40], i: usize) -> Triple
@@ -119,7 +119,7 @@ fn subproblem4(args: &[f64; 40], out: &mut [u64; 23]) {
 }
 
 fn subproblem5(args: &[f64; 40], out: &mut [u64; 23]) {
-    let set = subproblems::subproblem5(
+    let set = subproblem5::subproblem5(
         vector(args, 0),
         vector(args, 3),
         vector(args, 6),
@@ -135,22 +135,32 @@ fn subproblem6(args: &[f64; 40], out: &mut [u64; 23]) {
     let h = vectors(args, 0);
     let k = vectors(args, 12);
     let p = vectors(args, 24);
-    put_pairs(out, subproblems::subproblem6(h, k, p, args[36], args[37]));
+    put_pairs(out, subproblem6::subproblem6(h, k, p, args[36], args[37]));
 }
 
 fn subproblem1_sc(args: &[f64; 40], out: &mut [u64; 23]) {
-    let s = subproblems::subproblem1_sc(vector(args, 0), vector(args, 3), vector(args, 6));
+    let s = subproblems_sc::subproblem1_sc(vector(args, 0), vector(args, 3), vector(args, 6));
     put_sin_cos(out, 0, s.sc);
     out[2] = s.is_ls as u64;
 }
 
 fn subproblem3_sc(args: &[f64; 40], out: &mut [u64; 23]) {
-    let s = subproblems::subproblem3_sc(vector(args, 0), vector(args, 3), vector(args, 6), args[9]);
+    let s = subproblems_sc::subproblem3_sc(
+        vector(args, 0),
+        vector(args, 3),
+        vector(args, 6),
+        args[9],
+    );
     put_solved_sin_cos(out, s);
 }
 
 fn subproblem4_sc(args: &[f64; 40], out: &mut [u64; 23]) {
-    let s = subproblems::subproblem4_sc(vector(args, 0), vector(args, 3), vector(args, 6), args[9]);
+    let s = subproblems_sc::subproblem4_sc(
+        vector(args, 0),
+        vector(args, 3),
+        vector(args, 6),
+        args[9],
+    );
     put_solved_sin_cos(out, s);
 }
 
@@ -217,6 +227,6 @@ pub fn reduced_solutionset(count: u64, args: &[f64; 40], out: &mut [u64; 23]) {
     }
     put_triples(
         out,
-        subproblems::reduced_solutionset(triples(args), count as usize),
+        subproblem5::reduced_solutionset(triples(args), count as usize),
     );
 }

@@ -10,7 +10,11 @@ use Rattle.families.specs.SphericalTwoIntersecting.{spherical-two-inters
 use Rattle.families.specs.Spherical.{spherical}
 use Rattle.families.specs.ThreeParallelTwoIntersecting.{three-parallel-two-intersecting}
 use Rattle.families.specs.ThreeParallel.{three-parallel}
-use Rattle.families.proofs.Few.{spherical-two-parallel-few, spherical-two-intersecting-few, spherical-few, three-parallel-two-intersecting-few, three-parallel-few}
+use Rattle.family1.proofs.Few.{spherical-two-parallel-few}
+use Rattle.family2.proofs.Few.{spherical-two-intersecting-few}
+use Rattle.family3.proofs.Few.{spherical-few}
+use Rattle.family4.proofs.Few.{three-parallel-two-intersecting-few}
+use Rattle.family5.proofs.Few.{three-parallel-few}
 
 pub record AtMost8 (r : Matrix) (p : Vector3) (kin : Kinematics) (tolerance : Float) : Type 0 where
   pub family1 : length (spherical-two-parallel r p kin tolerance) ≤ 8

@@ -1,3 +1,1 @@
-pub mod Negated
-pub mod Few
 pub mod AtMost8

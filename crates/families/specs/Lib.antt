@@ -1,7 +1,3 @@
-pub mod Units
-pub mod Place
-pub mod Wrist
-pub mod Elbow
 pub mod SphericalTwoParallel
 pub mod SphericalTwoIntersecting
 pub mod Spherical

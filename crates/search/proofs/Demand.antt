@@ -14,7 +14,7 @@ use Rattle.search_error.specs.Error.{error-i, answers}
 use Rattle.search_error.proofs.Strict.{strict}
 use Rattle.search.specs.Searched.{Searched, Listed}
 use Rattle.search.specs.Demand.{two-parallel-search, Demanded}
-use Rattle.search.specs.declared.pairs.Found.{Found}
+use Rattle.search_dip.specs.declared.pairs.Found.{Found}
 use Rattle.search.proofs.Listed.{listed}
 
 pub demand : (kin : Kinematics) (r-06 : Matrix) (p-0t : Vector3) (n : ℕ) (q : List Float) (c : List ℕ) {q′ : List Float} {c′ : List ℕ} {r : Found} → 1 ≤ n → n ≤ 400 → 44 * n ≤ length q → 44 * n ≤ length c → Searched (two-parallel-search kin r-06 p-0t n) q c q′ c′ r → Demanded kin r-06 p-0t n q c q′ c′ r

@@ -15,8 +15,8 @@ use Rattle.search_definition.specs.Search.{search-1d-bracketed}
 use Rattle.search_definition.proofs.Bounds.{search-held}
 use Rattle.search.specs.State.{State, held, state, angle-of, component-of, afterwards}
 use Rattle.search.specs.Searched.{Searched, Listed, search-within}
-use Rattle.search.specs.declared.pairs.Found.{Found}
-use Rattle.search.proofs.States.{after-nothing}
+use Rattle.search_dip.specs.declared.pairs.Found.{Found}
+use Rattle.search_dip.proofs.States.{after-nothing}
 
 pub searched : (o : Out) (q : List Float) (c : List ℕ) {q′ : List Float} {c′ : List ℕ} {r : Found} → state q′ c′ r ≡ afterwards (held q c 0 0) o → Searched o q c q′ c′ r
 unfolding afterwards

@@ -11,7 +11,7 @@ use Rattle.search_definition.specs.Search.{search-1d-bracketed}
 use Rattle.search_definition.specs.Demand.{Demand3}
 use Rattle.search_error.specs.Error.{error-i, answers}
 use Rattle.search.specs.Searched.{Listed, search-within}
-use Rattle.search.specs.declared.pairs.Found.{Found}
+use Rattle.search_dip.specs.declared.pairs.Found.{Found}
 
 -- the search's definition over the error of two_parallel: its list, with what added each position, and the angles that it asks
 abbrev pub two-parallel-search : Kinematics → Matrix → Vector3 → ℕ → Out

@@ -13,7 +13,7 @@ use Rattle.search_definition.specs.Found.{Out, nothing, _then_}
 use Rattle.search_definition.specs.Dip.{Point}
 use Rattle.search_definition.specs.Search.{angle, of-component, search-1d-bracketed}
 use Rattle.search.specs.State.{angle-of, component-of}
-use Rattle.search.specs.declared.pairs.Found as Declared
+use Rattle.search_dip.specs.declared.pairs.Found as Declared
 
 -- left + k * delta, written out
 abbrev pub spaced : ℕ → ℕ → Float

@@ -1,16 +1,16 @@
 // search_1d_bracketed from -PI to PI: the grid's samples, and for each component the runs of its finite
 // samples and the edges between a finite sample and one that is not.
-use crate::edge::edge_at;
-use crate::pairs::Found;
-use crate::scan::scan_samples;
 use float::PI;
 use float::infinity;
 use float::is_finite;
 use kinematics::Kinematics;
 use linear::Matrix3;
 use linear::Vector3;
+use search_dip::pairs::Found;
+use search_edge::edge::edge_at;
 use search_error::Given;
 use search_error::error_given_q1;
+use search_scan::scan::scan_samples;
 ghost use mathlib.Core.Path.{_≡_};
 ghost use Prim.Native.Nat.{_<_, _≤_, _+_};
 ghost use lib.ListN.{length};

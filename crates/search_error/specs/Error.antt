@@ -1,4 +1,4 @@
--- The error of two_parallel (inverse_kinematics/mod.rs, lines 365 to 442) as a function of the arm, the pose and q1. The Rust's kin.h.column(0) is h1 here, its kin.p.column(0) is p0.
+-- The error of two_parallel (inverse_kinematics/mod.rs, lines 365 to 463) as a function of the arm, the pose and q1. The Rust's kin.h.column(0) is h1 here, its kin.p.column(0) is p0.
 -- "The error of two_parallel takes an angle q1 and gives its components, all infinite at first; component i, counted from 0, is set from answer i of subproblem 6 at q1 where there is one."
 use mathlib.Core.Bool.{cond}
 use mathlib.Core.List.{List, [], _∷_, map}
@@ -14,7 +14,7 @@ use Rattle.solutionset.specs.PairSet4.{get-all, size}
 use Rattle.solutionset.specs.declared.Pair.{Pair}
 use Rattle.solutionset.specs.declared.PairSet4.{PairSet4}
 use Rattle.subproblems.specs.Subproblem1.{subproblem1}
-use Rattle.subproblems.specs.Subproblem6.{subproblem6}
+use Rattle.subproblem6.specs.Subproblem6.{subproblem6}
 use Rattle.kinematics.specs.declared.Kinematics.{Kinematics}
 
 -- f64::MIN_POSITIVE

@@ -12,7 +12,7 @@ use Rattle.solutionset.specs.PairSet4.{get-all}
 use Rattle.solutionset.specs.declared.Pair.{Pair}
 use Rattle.solutionset.specs.declared.PairSet4.{PairSet4}
 use Rattle.subproblems.specs.Subproblem1.{subproblem1-theta}
-use Rattle.subproblems.specs.Subproblem6.{subproblem6}
+use Rattle.subproblem6.specs.Subproblem6.{subproblem6}
 use Rattle.kinematics.specs.declared.Kinematics.{Kinematics}
 use Rattle.search_error.specs.Error.{max-positive, p-16}
 use Rattle.search_error.specs.declared.Given.{Given}

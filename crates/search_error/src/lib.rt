@@ -120,7 +120,7 @@ impl Given {
         let p3 = kin.h5;
         let p4 = self.minus_h5;
         let d1 = linear::dot(h2, linear::sub(linear::sub(t.p, kin.p2), kin.p3));
-        subproblems::subproblem6(
+        subproblem6::subproblem6(
             [h1, h2, h1, h2],
             [k1, k2, k1, k2],
             [p1, p2, p3, p4],

@@ -1,5 +1,1 @@
 pub mod Commute
-pub mod NumberOrder
-pub mod Sorting
-pub mod Passes
-pub mod InSlots

@@ -3,9 +3,3 @@ pub mod Subproblem1
 pub mod Subproblem2
 pub mod Subproblem3
 pub mod Subproblem4
-pub mod SinCosForms
-pub mod Sort
-pub mod Sorted
-pub mod Reduced
-pub mod Subproblem5
-pub mod Subproblem6

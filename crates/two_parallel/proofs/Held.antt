@@ -24,10 +24,10 @@ use Rattle.search_error.specs.Given.{given, turned, t64, error-at}
 use Rattle.search_error.specs.declared.Given.{Given}
 use Rattle.search_error.proofs.Once.{once, t64-same}
 use Rattle.search_error.proofs.Strict.{strict}
-use Rattle.search.specs.State.{angle-of, component-of}
+use Rattle.search_dip.specs.State.{angle-of, component-of}
 use Rattle.search.specs.Searched.{Searched, search-within}
 use Rattle.search.specs.Demand.{two-parallel-search}
-use Rattle.search.specs.declared.pairs.Found.{Found}
+use Rattle.search_dip.specs.declared.pairs.Found.{Found}
 use Rattle.search.proofs.Listed.{same-error}
 use Rattle.two_parallel.specs.Pairs.{pair, zipped, first-pairs, Answered, AllAnswered}
 

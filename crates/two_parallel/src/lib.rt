@@ -1,6 +1,7 @@
 // Family 6: two_parallel of inverse_kinematics/mod.rs. The search's pairs (q1, i) are kept in two local
 // lists, and one loop writes the answer of each, so that all are counted before one is written.
 use answers::Answer;
+use families_shared::turn::any3;
 use kinematics::Kinematics;
 use linear::Matrix3;
 use linear::Vector3;
@@ -9,7 +10,6 @@ use search_error::Turned;
 use solutionset::Pair;
 use subproblems::Solved1;
 ghost use mathlib.Core.Path.{_≡_};
-ghost use mathlib.Core.Bool.{_||_};
 ghost use mathlib.Core.List.{_∷_, [], map};
 ghost use Prim.Native.Nat.{_≤_};
 ghost use lib.ListN.{length};
@@ -24,18 +24,6 @@ ghost use Rattle.two_parallel.specs.TwoParallel.{two-parallel, evaluatio
 pub struct Counted {
     pub answers: usize,
     pub evals: u64,
-}
-
-fn either(a: bool, b: bool) -> bool
-    ensures { λ r. ⌜ r ≡ (a || b) ⌝ }
-{
-    a || b
-}
-
-fn any3(a: bool, b: bool, c: bool) -> bool
-    ensures { λ r. ⌜ r ≡ (a || b || c) ⌝ }
-{
-    either(either(a, b), c)
 }
 
 fn t23(given: Given, tolerance: f64, r_16: Matrix3, r_34: Matrix3) -> Solved1

@@ -17,9 +17,9 @@ use Rattle.answers.proofs.Laws.{by-name}
 use Rattle.search_definition.specs.Found.{Pair}
 use Rattle.search_error.specs.Given.{given, error-at}
 use Rattle.search_error.specs.declared.Given.{Given}
-use Rattle.search.specs.State.{angle-of, component-of}
+use Rattle.search_dip.specs.State.{angle-of, component-of}
 use Rattle.search.specs.Searched.{Searched, search-within}
-use Rattle.search.specs.declared.pairs.Found.{Found}
+use Rattle.search_dip.specs.declared.pairs.Found.{Found}
 use Rattle.two_parallel.specs.Given.{answer-at}
 use Rattle.two_parallel.specs.Pairs.{first-pairs, AllAnswered}
 use Rattle.two_parallel.specs.TwoParallel.{answer-of, two-parallel, evaluations}

@@ -10,7 +10,7 @@ use lib.ListN.{length, getD, length-set}
 use Rattle.search_definition.specs.Search.{angle, delta}
 use Rattle.search_error.specs.Given.{error-of, error-at}
 use Rattle.search.specs.Searched.{Gridded}
-use Rattle.search.proofs.EdgeSteps.{set-next}
+use Rattle.search_edge.proofs.EdgeSteps.{set-next}
 use Rattle.search.proofs.grid.sample_grid.Statement.{statement}
 use Rattle.search.proofs.grid.sample_grid.Tie as tie
 

@@ -10,8 +10,8 @@ use Rattle.search_definition.specs.Found.{grid, component}
 use Rattle.search_definition.specs.Search.{runs}
 use Rattle.search_error.specs.Given.{error-at}
 use Rattle.search.specs.State.{row, state, afterwards}
-use Rattle.search.proofs.RefineSteps.{passed, failed}
-use Rattle.search.proofs.States.{after-two}
+use Rattle.search_refine.proofs.RefineSteps.{passed, failed}
+use Rattle.search_dip.proofs.States.{after-two}
 use Rattle.search.proofs.GridSteps.{runs-from, run-grows, run-ends, run-last, few-runs}
 use Rattle.search.proofs.grid.scan_runs.Statement.{statement}
 use Rattle.search.proofs.grid.scan_runs.Tie as tie

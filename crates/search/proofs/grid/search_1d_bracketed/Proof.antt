@@ -5,7 +5,7 @@ use borrow.Author.Needs.{needs}
 use Rattle.search_error.specs.Given.{error-at}
 use Rattle.search.specs.State.{held, afterwards}
 use Rattle.search.specs.Searched.{search-within}
-use Rattle.search.proofs.States.{after-nothing}
+use Rattle.search_dip.proofs.States.{after-nothing}
 use Rattle.search.proofs.Listed.{searched, within, beyond}
 use Rattle.search.proofs.grid.search_1d_bracketed.Statement.{statement}
 use Rattle.search.proofs.grid.search_1d_bracketed.Tie as tie

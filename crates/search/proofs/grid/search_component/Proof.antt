@@ -5,7 +5,7 @@ use borrow.Author.Needs.{needs}
 use mathlib.Core.Path.{_∙_}
 use Rattle.search_error.specs.Given.{error-at}
 use Rattle.search.specs.State.{row, state}
-use Rattle.search.proofs.States.{after-nothing}
+use Rattle.search_dip.proofs.States.{after-nothing}
 use Rattle.search.proofs.GridSteps.{component-done, few-runs}
 use Rattle.search.proofs.grid.search_component.Statement.{statement}
 use Rattle.search.proofs.grid.search_component.Tie as tie

@@ -6,7 +6,7 @@ use denote.Ref.{now}
 use borrow.Author.Needs.{needs}
 use Rattle.search_error.specs.Given.{error-at}
 use Rattle.search.specs.State.{row, state}
-use Rattle.search.proofs.States.{after-two}
+use Rattle.search_dip.proofs.States.{after-two}
 use Rattle.search.proofs.GridSteps.{few-more}
 use Rattle.search.proofs.grid.search_components.Statement.{statement}
 use Rattle.search.proofs.grid.search_components.Tie as tie

@@ -1,0 +1,2 @@
+pub mod DipSteps
+pub mod States

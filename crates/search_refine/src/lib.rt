@@ -1,0 +1,2 @@
+// refine_bracket of inverse_kinematics/auxiliary.rs, over the error of two_parallel.
+pub mod refine;

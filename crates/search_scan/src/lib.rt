@@ -1,0 +1,2 @@
+// scan_samples of inverse_kinematics/auxiliary.rs, over the error of two_parallel.
+pub mod scan;

@@ -1,0 +1,87 @@
+-- The invariant: the slots passed hold their solutions.
+use Prim.Native.Nat.{ℕ, suc, _+_, _-_, _≤_, _<_}
+use native.Mathlib.Omega.{arith}
+use native.Mathlib.Numerals.{add-one}
+use mathlib.Core.Path.{_≡_, refl, ap, _∙_}
+use mathlib.Core.List.{List, [], _∷_, _++_, map}
+use lib.Ieee.{nan}
+use lib.ListN.{length, getD, set, take, length-set}
+use lib.Seq.{take-suc, take-suc-set}
+use borrow.Author.Needs.{needs}
+use Rattle.solutionset.specs.declared.Triple.{Triple}
+use Rattle.subproblem5.specs.Reduced.{unordered}
+use Rattle.triple_sort.specs.declared.Ordered.{Ordered}
+use Rattle.subproblem5.proofs.reduced.unordered.Statement.{statement}
+use Rattle.subproblem5.proofs.reduced.unordered.Tie as tie
+
+abbrev none : Triple
+none = record { first = nan; second = nan; third = nan }
+
+abbrev Inv-loop : tie.InvT-loop
+Inv-loop n solutions t₀ i₀ t i = (i ≤ n) × (length t ≡ 16) × (take i t ≡ map unordered (take i solutions))
+
+abbrev μ-loop : tie.MeasureT-loop
+μ-loop n solutions t₀ i₀ t i = n - i
+
+map-end : (l : List Triple) (a : Triple) → map unordered (l ++ (a ∷ [])) ≡ map unordered l ++ (unordered a ∷ [])
+map-end [] a = refl
+map-end (b ∷ l) a = ap (λ (m : List Ordered). unordered b ∷ m) (map-end l a)
+
+module _ (n i : ℕ) (l : List Triple) (t : List Ordered) (f : n ≤ 16) (k : length l ≡ 16) (h : i < n) (m : length t ≡ 16) where
+  same-length : (v : Ordered) → length (set t i v) ≡ 16
+  same-length v = length-set t i v ∙ m
+
+  again : take i t ≡ map unordered (take i l) → take (i + 1) (set t i (unordered (getD l i none))) ≡ map unordered (take (i + 1) l)
+  again inv =
+      let a : i < length t = omega arith in
+      let b : i < length l = omega arith in
+      let e = take-suc-set t i (unordered (getD l i none)) a in
+      let g = take-suc l i none b in
+      let u = map-end (take i l) (getD l i none) in
+      simp add-one cc
+
+end : (n i : ℕ) (l : List Triple) (t : List Ordered) → i ≤ n → n ≤ i → take i t ≡ map unordered (take i l) → take n t ≡ map unordered (take n l)
+end n i l t g h inv = let e : i ≡ n = omega arith in rw e at inv
+
+loop-holds : tie.Need-loop-holds Inv-loop μ-loop
+loop-holds c = (omega arith, refl, refl)
+
+mul-solution : tie.Need-mul-solution Inv-loop μ-loop
+mul-solution c = search needs
+
+array-copy-out-solution : tie.Need-array-copy-out-solution Inv-loop μ-loop
+array-copy-out-solution c = search needs
+
+mul-t : tie.Need-mul-t Inv-loop μ-loop
+mul-t c = search needs
+
+array-set-from-t : tie.Need-array-set-from-t Inv-loop μ-loop
+array-set-from-t c = search needs
+
+add-i : tie.Need-add-i Inv-loop μ-loop
+add-i c = search needs
+
+loop-less : tie.Need-loop-less Inv-loop μ-loop
+loop-less c = search needs
+
+loop-again : tie.Need-loop-again Inv-loop μ-loop
+loop-again c = (omega arith, search same-length, search again)
+
+returns : tie.Need-returns Inv-loop μ-loop
+returns c = search end
+
+pub unordered-spec : {M : Type 1} → statement M
+unordered-spec =
+    tie.close
+    (tie.spec
+    Inv-loop
+    μ-loop
+    loop-holds
+    mul-solution
+    array-copy-out-solution
+    mul-t
+    array-set-from-t
+    add-i
+    loop-less
+    loop-again
+    returns)

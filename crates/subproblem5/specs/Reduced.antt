@@ -1,0 +1,37 @@
+-- reduced_solutionset, within subproblem5 of subproblems/mod.rs: "Given n >= 4 solutions, return the top 4 most unique".
+use Prim.Native.Nat.{ℕ}
+use mathlib.Core.Bool.{cond}
+use mathlib.Core.List.{List, [], _∷_, map}
+use lib.Dec.{leb}
+use lib.Ieee.{Float}
+use lib.ListN.{length, take}
+use Rattle.float.specs.Num.{_⊖_, _⊗_, _⊘_, nought, one, infinity}
+use Rattle.solutionset.specs.TripleSet4.{from-vec}
+use Rattle.solutionset.specs.declared.Triple.{Triple}
+use Rattle.solutionset.specs.declared.TripleSet4.{TripleSet4}
+use Rattle.triple_sort.specs.Sort.{triple-above, ordered-above, sort}
+use Rattle.triple_sort.specs.declared.Ordered.{Ordered}
+
+-- the loop: delta = solution.0 - last, ordering = 1.0 / (delta * delta), last = solution.0
+unfoldable pub with-ordering : Float → List Triple → List Ordered
+with-ordering last [] = []
+with-ordering last (solution ∷ solutions) =
+    let delta = solution .first ⊖ last in
+    record { ordering = one ⊘ (delta ⊗ delta); solution = solution } ∷ with-ordering (solution .first) solutions
+
+abbrev pub solution-of : Ordered → Triple
+solution-of o = o .solution
+
+-- in the slots: a solution with the ordering value 0.0, and the loop over such
+abbrev pub unordered : Triple → Ordered
+unordered solution = record { ordering = nought; solution = solution }
+
+abbrev pub with-gaps : Float → List Ordered → List Ordered
+with-gaps last l = with-ordering last (map solution-of l)
+
+unfoldable pub reduced-solutionset : List Triple → TripleSet4
+unfolding with-ordering
+reduced-solutionset solutions =
+    cond (leb (length solutions) 4) (from-vec solutions)
+    (let solutions-with-ordering = sort ordered-above (with-ordering infinity (sort triple-above solutions)) in
+    from-vec (take 4 (map solution-of solutions-with-ordering)))

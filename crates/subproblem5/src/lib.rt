@@ -1,0 +1,40 @@
+// Subproblem 5 (subproblems/mod.rs), and the choice among its candidates: each function equals its
+// definition in specs/ for every f64.
+mod reduced;
+mod sp5;
+
+use linear::Vector3;
+use polynomial::Vector2;
+pub use reduced::reduced_solutionset;
+use solutionset::Triple;
+pub use sp5::subproblem5;
+use subproblems::Columns;
+
+// A circle of subproblem 5: the turned vector is a times (sine, cosine), from p_s on. With a_k2 the
+// products of its columns and k2, norm_sq the square of their norm, and j_a_k2 the same turned.
+pub struct Circle {
+    pub a: Columns,
+    pub p_s: Vector3,
+    pub delta: f64,
+    pub a_k2: Vector2,
+    pub norm_sq: f64,
+    pub j_a_k2: Vector2,
+}
+
+// A point of a circle: its sine and cosine, the point, and its distance from the axis k2.
+pub struct Side {
+    pub sc: Vector2,
+    pub v: Vector3,
+    pub distance: f64,
+}
+
+pub struct Sides {
+    pub plus: Side,
+    pub minus: Side,
+}
+
+// The candidates of subproblem 5. An unused slot holds zeros.
+pub struct Candidates {
+    pub slots: [Triple; 16],
+    pub count: usize,
+}
