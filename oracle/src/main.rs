@@ -31,6 +31,7 @@ use arith::{Arith, Machine, Rules};
 use block::canonical_bits;
 use functions::{Function, Group};
 use inverse_kinematics::{auxiliary::Kinematics, two_parallel_search};
+use recover::By;
 use std::io::{self, BufRead, BufWriter, Read, Write};
 use std::process::ExitCode;
 
@@ -47,8 +48,11 @@ usage: oracle COMMAND
   angles KIND FAMILY SEED COUNT [N]      the angles that made the poses of generate's blocks
   recover KIND FAMILY SEED COUNT [N]     how many poses, reachable or degenerate, have their own
                                          angles among their answers (n = 200 in family 6);
-                                         --arms adds a line for each arm
+                                         --arms adds a line for each arm, --tilt for each range
+                                         of the angle between axes 2 and 5
   missed KIND SEED COUNT [N]             family 6: the poses that have not, each with the reason
+  explain Q1 Q2 Q3 Q4 Q5 Q6              family 6: whether the angles that made a block's pose are
+                                         among its answers, and if not, the reason
   errors ANGLE..                         family 6: subproblem 6's answers and the search's error
                                          for each block at angles; k7 is grid point 7, and
                                          A:B:7 are 7 steps from A to B
@@ -68,7 +72,7 @@ struct CommandLine {
     words: Vec<String>,
     machine: bool,
     list: bool,
-    arms: bool,
+    by: By,
     room: usize,
 }
 
@@ -90,7 +94,7 @@ fn parse(arguments: impl Iterator<Item = String>) -> Result<CommandLine, Failure
         words: Vec::new(),
         machine: false,
         list: false,
-        arms: false,
+        by: By::Nothing,
         room: 1024,
     };
     let mut arguments = arguments;
@@ -98,7 +102,8 @@ fn parse(arguments: impl Iterator<Item = String>) -> Result<CommandLine, Failure
         match argument.as_str() {
             "--machine" => line.machine = true,
             "--list" => line.list = true,
-            "--arms" => line.arms = true,
+            "--arms" => line.by = By::Arm,
+            "--tilt" => line.by = By::Tilt,
             "--room" => {
                 let room = arguments.next().ok_or("--room needs a number")?;
                 line.room = number(&room)? as usize;
@@ -144,11 +149,23 @@ fn command<A: Arith>(line: &CommandLine, output: &mut impl Write) -> Result<(), 
         }
         ["recover", kind @ ("reachable" | "degenerate"), family, seed, count, ref n @ ..] => {
             let request = Generated::parse(kind, family, seed, count, n)?;
-            told(request.write_recovered::<A>(output, line.arms))
+            told(request.write_recovered::<A>(output, line.by))
         }
         ["missed", kind @ ("reachable" | "degenerate"), seed, count, ref n @ ..] => {
             let request = Generated::parse(kind, "6", seed, count, n)?;
             told(request.write_missed::<A>(output))
+        }
+        ["explain", ref angles @ ..] => {
+            let angles = angles
+                .iter()
+                .map(|word| word.parse().map_err(|_| format!("{word} is no angle")))
+                .collect::<Result<Vec<f64>, Failure>>()?;
+            let angles = angles.try_into().map_err(|_| "six angles are wanted")?;
+            told(recover::print_reasons::<A>(
+                &mut io::stdin().lock(),
+                output,
+                angles,
+            ))
         }
         ["errors", ref angles @ ..] => {
             let angles = angles
@@ -298,38 +315,21 @@ impl Generated {
         Ok(())
     }
 
-    fn write_recovered<A: Arith>(&self, output: &mut impl Write, arms: bool) -> io::Result<()> {
-        let n = self.n.unwrap_or(200);
-        let ignore = |_, _: &generate::Sample, _| ();
-        let counts = recover::recover::<A>(
-            self.kind,
-            self.family,
-            self.seed,
-            self.count,
-            Some(n),
-            ignore,
-        );
+    fn write_recovered<A: Arith>(&self, output: &mut impl Write, by: By) -> io::Result<()> {
+        let counts = recover::recover::<A>(self, by, |_, _, _| ());
         write_counts(output, &format!("family {}", self.family), &counts.all)?;
-        if arms {
-            for (name, r) in &counts.arms {
-                write_counts(output, name, r)?;
-            }
+        for (name, r) in &counts.groups {
+            write_counts(output, name, r)?;
         }
         Ok(())
     }
 
     /// A line for each missed pose with its class, then the classes' counts.
     fn write_missed<A: Arith>(&self, output: &mut impl Write) -> io::Result<()> {
-        let n = self.n.unwrap_or(200);
         let mut missed = Vec::new();
-        recover::recover::<A>(
-            self.kind,
-            self.family,
-            self.seed,
-            self.count,
-            Some(n),
-            |place, sample, why| missed.push((place, sample.arm_name, sample.angles[0], why)),
-        );
+        recover::recover::<A>(self, By::Nothing, |place, sample, why| {
+            missed.push((place, sample.arm_name, sample.angles[0], why))
+        });
         for (place, arm, q1, why) in &missed {
             writeln!(output, "pose {place} {arm} q1 {q1:?} {why}")?;
         }

@@ -12,10 +12,12 @@ use crate::{
     linalg::Vector6,
     solve::pose_parts,
 };
-use std::{f64::consts::PI, fmt};
+use std::{f64::consts::PI, fmt, marker::PhantomData};
 
 /// The branch's pair at the pose's own q1 is taken from subproblem 6 within this.
 const SAME_PAIR: f64 = 1e-4;
+/// The search looks for a dip at samples nearer to zero than this.
+const TOUCH: f64 = 0.5;
 /// An answer nearer than this is the pose's own angles, found badly.
 const NEAR: f64 = 1e-3;
 
@@ -33,20 +35,27 @@ pub enum Class {
     Edge,
     /// It comes to both, under two numbers.
     Renumbered,
-    /// It comes to both under one number, with one sign.
-    OneSign,
-    /// It comes to both under one number, with two signs.
+    /// It comes to both under one number with one sign, so that it crosses zero twice between
+    /// them. Neither sample is near enough to zero to be tried as a dip,
+    PairFar,
+    /// or one is, but the samples beside it do not make it the bottom of a dip,
+    PairSlope,
+    /// or a dip was tried there and led elsewhere.
+    PairLost,
+    /// It comes to both under one number with two signs, and the refined crossing is another one.
     Astray,
 }
 
-pub const CLASSES: [(Class, &str); 8] = [
+pub const CLASSES: [(Class, &str); 10] = [
     (Class::Near, "near"),
     (Class::Absent, "absent"),
     (Class::Unseen, "unseen"),
     (Class::TakenOver, "taken-over"),
     (Class::Edge, "edge"),
     (Class::Renumbered, "renumbered"),
-    (Class::OneSign, "one-sign"),
+    (Class::PairFar, "pair-far"),
+    (Class::PairSlope, "pair-slope"),
+    (Class::PairLost, "pair-lost"),
     (Class::Astray, "astray"),
 ];
 
@@ -168,22 +177,78 @@ fn follow<A: Arith>(problem: &TwoParallel, from: f64, pair: (f64, f64), goal: f6
     }
 }
 
-fn class_of(left: Reach, right: Reach, errors: [[f64; 4]; 2]) -> Class {
-    use Reach::*;
-    match (left, right) {
-        (Ends { .. }, Ends { .. }) => Class::Unseen,
-        (Comes { component, .. }, Ends { .. }) if errors[1][component].is_finite() => {
-            Class::TakenOver
+/// The samples that the search has of a pose.
+struct Samples<'a, A: Arith> {
+    problem: &'a TwoParallel<'a>,
+    n: usize,
+    arithmetic: PhantomData<A>,
+}
+
+impl<A: Arith> Samples<'_, A> {
+    /// The grid points as the search makes them.
+    fn angle(&self, k: usize) -> f64 {
+        -PI + k as f64 * ((PI - -PI) / self.n as f64)
+    }
+
+    /// The grid point before an angle, or the last but one.
+    fn before(&self, q1: f64) -> usize {
+        let step = (PI - -PI) / self.n as f64;
+        (((q1 - -PI) / step) as usize).min(self.n - 1)
+    }
+
+    /// A component's value at a grid point, if there is one.
+    fn value(&self, k: Option<usize>, component: usize) -> Option<f64> {
+        let k = k.filter(|&k| k <= self.n)?;
+        let y = self.problem.error::<A>(self.angle(k))[component];
+        y.is_finite().then_some(y)
+    }
+
+    /// Whether the search takes grid point k or k + 1 for the bottom of a dip that has the stretch
+    /// between them in it: the conditions of scan_samples.
+    fn dip_is_tried(&self, k: usize, component: usize) -> bool {
+        [k, k + 1].into_iter().any(|at| {
+            let y1 = self
+                .value(Some(at), component)
+                .expect("the branch is there");
+            let y0 = self.value(at.checked_sub(1), component);
+            let y2 = self.value(Some(at + 1), component);
+            let one_sign = |y: f64| (y < 0.0) == (y1 < 0.0);
+            y1.abs() < TOUCH
+                && match (y0, y2) {
+                    (Some(y0), Some(y2)) => {
+                        y1.abs() <= y0.abs() && y1.abs() < y2.abs() && one_sign(y0) && one_sign(y2)
+                    }
+                    (Some(y0), None) => at == k + 1 && y1.abs() <= y0.abs(),
+                    (None, Some(y2)) => at == k && y1.abs() <= y2.abs(),
+                    (None, None) => false,
+                }
+        })
+    }
+
+    fn class_of(&self, k: usize, left: Reach, right: Reach) -> Class {
+        use Reach::*;
+        match (left, right) {
+            (Ends { .. }, Ends { .. }) => Class::Unseen,
+            (Comes { component, .. }, Ends { .. }) => self.half_seen(k + 1, component),
+            (Ends { .. }, Comes { component, .. }) => self.half_seen(k, component),
+            (Comes { component: i, .. }, Comes { component: j, .. }) if i != j => Class::Renumbered,
+            (Comes { error: a, .. }, Comes { error: b, .. }) if (a < 0.0) != (b < 0.0) => {
+                Class::Astray
+            }
+            (Comes { error: a, .. }, Comes { error: b, .. }) if a.abs().min(b.abs()) >= TOUCH => {
+                Class::PairFar
+            }
+            (Comes { component, .. }, _) if self.dip_is_tried(k, component) => Class::PairLost,
+            _ => Class::PairSlope,
         }
-        (Ends { .. }, Comes { component, .. }) if errors[0][component].is_finite() => {
-            Class::TakenOver
+    }
+
+    /// A branch that does not come to grid point `other`, by what its number has there.
+    fn half_seen(&self, other: usize, component: usize) -> Class {
+        match self.value(Some(other), component) {
+            Some(_) => Class::TakenOver,
+            None => Class::Edge,
         }
-        (Comes { .. }, Ends { .. }) | (Ends { .. }, Comes { .. }) => Class::Edge,
-        (Comes { component: i, .. }, Comes { component: j, .. }) if i != j => Class::Renumbered,
-        (Comes { error: a, .. }, Comes { error: b, .. }) if (a < 0.0) == (b < 0.0) => {
-            Class::OneSign
-        }
-        _ => Class::Astray,
     }
 }
 
@@ -194,13 +259,16 @@ pub fn explain<A: Arith>(sample: &Sample, answers: &[Vector6]) -> Missed {
     let problem = TwoParallel::new(&r, &p, &kin);
     let [q1, _, _, q4, _, q6] = sample.angles;
 
-    let delta = (PI - -PI) / sample.n as f64;
-    let k = (((q1 - -PI) / delta) as usize).min(sample.n as usize - 1);
-    let ends = [k, k + 1].map(|k| -PI + k as f64 * delta);
+    let samples = Samples::<A> {
+        problem: &problem,
+        n: sample.n as usize,
+        arithmetic: PhantomData,
+    };
+    let k = samples.before(q1);
 
     let own = nearest(&problem.pairs::<A>(q1), (q6, q4)).filter(|own| own.1 < SAME_PAIR);
     let [left, right] = match own {
-        Some(_) => ends.map(|end| follow::<A>(&problem, q1, (q6, q4), end)),
+        Some(_) => [k, k + 1].map(|k| follow::<A>(&problem, q1, (q6, q4), samples.angle(k))),
         None => [Reach::Ends { at: q1 }; 2],
     };
     let class = if answers.iter().any(|a| distance(a, &sample.angles) < NEAR) {
@@ -208,7 +276,7 @@ pub fn explain<A: Arith>(sample: &Sample, answers: &[Vector6]) -> Missed {
     } else if own.is_none() {
         Class::Absent
     } else {
-        class_of(left, right, ends.map(|end| problem.error::<A>(end)))
+        samples.class_of(k, left, right)
     };
     Missed {
         class,
@@ -216,5 +284,42 @@ pub fn explain<A: Arith>(sample: &Sample, answers: &[Vector6]) -> Missed {
         component: own.map(|own| own.0),
         left,
         right,
+    }
+}
+
+#[cfg(test)]
+mod tests {
+    use super::*;
+    use crate::{
+        arith::Rules,
+        generate::Kind,
+        recover::{recover, By},
+        Generated,
+    };
+
+    /// A branch that is said to end has an answer just before that angle, and the next angles
+    /// behind it have two answers less than the angles before it.
+    #[test]
+    fn branches_end_where_two_answers_vanish() {
+        let mut ends = 0;
+        let request = Generated {
+            kind: Kind::Reachable,
+            family: 6,
+            seed: 8,
+            count: 300,
+            n: Some(25),
+        };
+        recover::<Rules>(&request, By::Nothing, |place, s, missed| {
+            let ((r, p), kin) = (pose_parts(&s.pose), Kinematics::from_arm(&s.arm));
+            let problem = TwoParallel::new(&r, &p, &kin);
+            for (reach, away) in [(missed.left, -1e-6), (missed.right, 1e-6)] {
+                if let (Reach::Ends { at }, Some(_)) = (reach, missed.component) {
+                    let answers = |x: f64| problem.pairs::<Rules>(x).len();
+                    assert_eq!(answers(at), answers(at + away) + 2, "place {place}");
+                    ends += 1;
+                }
+            }
+        });
+        assert!(ends > 20);
     }
 }

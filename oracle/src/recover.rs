@@ -1,12 +1,18 @@
 //! How many reachable poses have the angles that made them among their answers.
 
 use crate::{
-    arith::Arith,
-    generate::{sample, Kind, Sample},
+    arith::{Arith, Rules},
+    block::for_each_block,
+    errors::two_parallel_request,
+    generate::{sample, Sample},
     inverse_kinematics::auxiliary::Kinematics,
     missed::{distance, explain, Missed},
     solve::{family_answers, Answers, TWO_PARALLEL},
+    subproblems::auxiliary::rot,
+    Generated,
 };
+use std::collections::BTreeMap;
+use std::io::{self, Read, Write};
 
 /// Two angles are alike within this, modulo TAU.
 const TOLERANCE: f64 = 1e-6;
@@ -50,46 +56,94 @@ impl Recovered {
     }
 }
 
-/// The counts of all poses, and of each arm by its name.
+/// The angle between axes 2 and 5 in a pose, in degrees from 0 to 90.
+fn tilt(sample: &Sample) -> f64 {
+    let kin = Kinematics::from_arm(&sample.arm);
+    let (h2, h5) = (kin.h.column(1), kin.h.column(4));
+    let turned = rot::<Rules>(&kin.h.column(3), sample.angles[3]) * h5;
+    let across = h2.cross(&turned).norm();
+    across.atan2(h2.dot(&turned).abs()).to_degrees()
+}
+
+/// What poses are counted apart by.
+#[derive(Clone, Copy, PartialEq, Eq)]
+pub enum By {
+    Nothing,
+    Arm,
+    Tilt,
+}
+
+impl By {
+    /// A pose's group; groups are listed in the order of their names.
+    fn group(self, sample: &Sample) -> Option<String> {
+        const DEGREES: [f64; 6] = [0.3, 1.0, 3.0, 10.0, 30.0, 90.0];
+        match self {
+            By::Nothing => None,
+            By::Arm => Some(sample.arm_name.to_string()),
+            By::Tilt => {
+                let tilt = tilt(sample);
+                let most = DEGREES.into_iter().find(|&most| tilt <= most);
+                most.map(|most| format!("tilt-to-{most:04.1}"))
+            }
+        }
+    }
+}
+
+/// The counts of all poses, and of each group.
 #[derive(Default)]
 pub struct Counts {
     pub all: Recovered,
-    pub arms: Vec<(&'static str, Recovered)>,
-}
-
-impl Counts {
-    fn count(&mut self, sample: &Sample, list: &Answers) -> bool {
-        let known = self
-            .arms
-            .iter()
-            .position(|(name, _)| *name == sample.arm_name);
-        let at = known.unwrap_or_else(|| {
-            self.arms.push((sample.arm_name, Recovered::default()));
-            self.arms.len() - 1
-        });
-        self.arms[at].1.count(list, &sample.angles);
-        self.all.count(list, &sample.angles)
-    }
+    pub groups: BTreeMap<String, Recovered>,
 }
 
 /// Counts the poses of a generated list. In family 6 `each` is given every missed one.
 pub fn recover<A: Arith>(
-    kind: Kind,
-    family: u64,
-    seed: u64,
-    count: u64,
-    n: Option<u64>,
+    request: &Generated,
+    by: By,
     mut each: impl FnMut(u64, &Sample, Missed),
 ) -> Counts {
     let mut counts = Counts::default();
-    for place in 0..count {
-        let sample = sample(kind, family, seed, place, n);
+    let n = Some(request.n.unwrap_or(200));
+    for place in 0..request.count {
+        let sample = sample(request.kind, request.family, request.seed, place, n);
         let kin = Kinematics::from_arm(&sample.arm);
-        let list = family_answers::<A>(family, sample.n as usize, &kin, &sample.pose);
-        if !counts.count(&sample, &list) && family == TWO_PARALLEL {
+        let list = family_answers::<A>(sample.family, sample.n as usize, &kin, &sample.pose);
+        if let Some(group) = by.group(&sample) {
+            let own = counts.groups.entry(group).or_default();
+            own.count(&list, &sample.angles);
+        }
+        if !counts.all.count(&list, &sample.angles) && sample.family == TWO_PARALLEL {
             each(place, &sample, explain::<A>(&sample, &list.angles));
         }
     }
-    counts.arms.sort_by_key(|(name, _)| *name);
     counts
+}
+
+/// One line for each block: whether the angles that made its pose are among its answers, and if
+/// not, why. A block that is refused or not of family 6 has neither.
+pub fn print_reasons<A: Arith>(
+    input: &mut impl Read,
+    output: &mut impl Write,
+    angles: [f64; 6],
+) -> io::Result<()> {
+    for_each_block(input, |place, bytes| {
+        let Some(request) = two_parallel_request(bytes) else {
+            return writeln!(output, "block {place} -");
+        };
+        let sample = Sample {
+            family: request.family,
+            n: request.n,
+            arm: request.arm,
+            arm_name: "given",
+            pose: request.pose,
+            angles,
+        };
+        let kin = Kinematics::from_arm(&sample.arm);
+        let list = family_answers::<A>(sample.family, sample.n as usize, &kin, &sample.pose);
+        if Recovered::default().count(&list, &angles) {
+            return writeln!(output, "block {place} found");
+        }
+        let why = explain::<A>(&sample, &list.angles);
+        writeln!(output, "block {place} {why}")
+    })
 }
