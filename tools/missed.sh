@@ -3,6 +3,7 @@
 # oracle alone. The same poses at each n. Needs cargo.
 #   tools/missed.sh [-n COUNT] [-s SEED]            the table of docs/missed.csv
 #   tools/missed.sh [-n COUNT] [-s SEED] classes    why they are missed, at each n
+#   tools/missed.sh [-n COUNT] [-s SEED] tilt       by the angle between axes 2 and 5, at each n
 #   tools/missed.sh [-n COUNT] [-s SEED] twice      missed at n = 400 and at n = 399 too
 # COUNT is the number of poses (20000), SEED the generator's (3).
 set -euo pipefail
@@ -20,13 +21,22 @@ cargo build --release --offline --quiet --manifest-path oracle/Cargo.toml
 oracle=${CARGO_TARGET_DIR:-oracle/target}/release/oracle
 sizes=(25 50 100 200 400)
 
-table() {
-    echo "n,arm,poses,unflagged,flagged,missing,answers,flagged answers,evaluations"
+# The counts of recover as a table, with the option that divides the poses.
+counts() {
+    echo "n,$2,poses,unflagged,flagged,missing,answers,flagged answers,evaluations"
     for n in "${sizes[@]}"; do
-        "$oracle" recover reachable 6 "$seed" "$count" "$n" --arms |
+        "$oracle" recover reachable 6 "$seed" "$count" "$n" "$1" |
             sed 's/^family 6/all/; s/ [a-z-]* / /g' |
             sed "s/^/$n,/; s/ /,/g"
     done
+}
+
+table() {
+    counts --arms arm
+}
+
+tilt() {
+    counts --tilt tilt
 }
 
 classes() {
@@ -48,6 +58,6 @@ twice() {
 }
 
 case ${1:-table} in
-    table | classes | twice) "${1:-table}" ;;
+    table | classes | tilt | twice) "${1:-table}" ;;
     *) exit 2 ;;
 esac
