@@ -26,6 +26,10 @@ ARMS = {
     ],
 }
 TOLERANCE = 1e-6
+NEAR = 1e-3
+# Found in an unflagged answer or in flagged ones alone; an answer within NEAR, but none within
+# TOLERANCE; none at all.
+KINDS = ["unflagged", "flagged", "near", "missing"]
 
 
 def held(joint, degrees):
@@ -67,18 +71,24 @@ def call(oracle, name, lines):
     return [line.split() for line in done.stdout.splitlines()]
 
 
-def alike(answer, angles):
-    return all(abs(math.remainder(a - b, math.tau)) <= TOLERANCE for a, b in zip(answer, angles))
+def apart(answer, angles):
+    """The largest difference modulo TAU; an answer with a NaN is infinitely far."""
+    most = max(abs(math.remainder(a - b, math.tau)) for a, b in zip(answer, angles))
+    return most if not math.isnan(sum(answer)) else math.inf
 
 
 def found(result, angles):
-    """'unflagged', 'flagged' or 'missing'."""
-    kinds = set()
+    """One of KINDS."""
+    nearest = {"0": math.inf, "1": math.inf}
     for at in range(2, len(result), 7):
         answer = [number(text) for text in result[at:at + 6]]
-        if alike(answer, angles):
-            kinds.add(result[at + 6])
-    return "unflagged" if "0" in kinds else "flagged" if "1" in kinds else "missing"
+        flag = result[at + 6]
+        nearest[flag] = min(nearest[flag], apart(answer, angles))
+    if nearest["0"] <= TOLERANCE:
+        return "unflagged"
+    if nearest["1"] <= TOLERANCE:
+        return "flagged"
+    return "near" if min(nearest.values()) <= NEAR else "missing"
 
 
 def measure(oracle, offsets, choose, count, n):
@@ -88,7 +98,7 @@ def measure(oracle, offsets, choose, count, n):
     poses = call(oracle, "forward_kinematics", [arm + [word(q) for q in a] for a in chosen])
     lists = call(oracle, "two_parallel", [["%x" % n] + arm + pose for pose in poses])
     kinds = [found(result, angles) for result, angles in zip(lists, chosen)]
-    return [kinds.count(kind) for kind in ("unflagged", "flagged", "missing")]
+    return [kinds.count(kind) for kind in KINDS]
 
 
 def main():
@@ -97,7 +107,7 @@ def main():
     parser.add_argument("--count", type=int, default=1000)
     parser.add_argument("--n", type=int, default=200)
     args = parser.parse_args()
-    print("arm, angles: unflagged flagged missing")
+    print("arm, angles:", *KINDS)
     for arm, offsets in ARMS.items():
         for name, choose in CHOICES:
             counts = measure(args.oracle, offsets, choose, args.count, args.n)
