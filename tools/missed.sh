@@ -23,7 +23,7 @@ sizes=(25 50 100 200 400)
 
 # The counts of recover as a table, with the option that divides the poses.
 counts() {
-    echo "n,$2,poses,unflagged,flagged,missing,answers,flagged answers,evaluations"
+    echo "n,$2,poses,unflagged,flagged,missing,answers,flagged answers,evaluations,untrue,flagged but true"
     for n in "${sizes[@]}"; do
         "$oracle" recover reachable 6 "$seed" "$count" "$n" "$1" |
             sed 's/^family 6/all/; s/ [a-z-]* / /g' |

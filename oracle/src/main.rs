@@ -344,14 +344,17 @@ impl Generated {
 fn write_counts(output: &mut impl Write, name: &str, r: &recover::Recovered) -> io::Result<()> {
     writeln!(
         output,
-        "{name} poses {} unflagged {} flagged {} missed {} answers {} of-them-flagged {} evals {}",
+        "{name} poses {} unflagged {} flagged {} missed {} answers {} of-them-flagged {} \
+         evals {} untrue {} flagged-but-true {}",
         r.poses,
         r.unflagged,
         r.flagged,
         r.missed(),
         r.answers,
         r.flagged_answers,
-        r.evaluations
+        r.evaluations,
+        r.untrue,
+        r.flagged_true
     )
 }
 

@@ -6,6 +6,7 @@ use crate::{
     errors::two_parallel_request,
     generate::{sample, Sample},
     inverse_kinematics::auxiliary::Kinematics,
+    linalg::Vector6,
     missed::{distance, explain, Missed},
     solve::{family_answers, Answers, TWO_PARALLEL},
     subproblems::auxiliary::rot,
@@ -27,6 +28,10 @@ pub struct Recovered {
     pub answers: u64,
     /// Of these the flagged ones.
     pub flagged_answers: u64,
+    /// Unflagged answers that do not make the pose.
+    pub untrue: u64,
+    /// Flagged answers that do.
+    pub flagged_true: u64,
     pub evaluations: u64,
 }
 
@@ -36,15 +41,14 @@ impl Recovered {
     }
 
     /// Counts a pose's list; whether the pose's own angles are in it.
-    fn count(&mut self, list: &Answers, angles: &[f64; 6]) -> bool {
+    fn count(&mut self, sample: &Sample, list: &Answers) -> bool {
         let found = |flag: bool| {
             let mut answers = list.angles.iter().zip(&list.flags);
-            answers.any(|(answer, &f)| f == flag && distance(answer, angles) <= TOLERANCE)
+            answers.any(|(answer, &f)| f == flag && distance(answer, &sample.angles) <= TOLERANCE)
         };
         self.poses += 1;
-        self.answers += list.angles.len() as u64;
-        self.flagged_answers += list.flags.iter().filter(|&&f| f).count() as u64;
         self.evaluations += list.evaluations;
+        self.count_answers(sample, list);
         if found(false) {
             self.unflagged += 1;
         } else if found(true) {
@@ -54,6 +58,30 @@ impl Recovered {
         }
         true
     }
+
+    fn count_answers(&mut self, sample: &Sample, list: &Answers) {
+        for (answer, &flag) in list.angles.iter().zip(&list.flags) {
+            let makes = makes_pose(sample, answer);
+            self.answers += 1;
+            self.flagged_answers += flag as u64;
+            self.untrue += (!flag && !makes) as u64;
+            self.flagged_true += (flag && makes) as u64;
+        }
+    }
+}
+
+/// Whether an answer's pose is the sample's: the rotation's entries, and the place relative to the
+/// sum of the offsets' entries.
+fn makes_pose(sample: &Sample, answer: &Vector6) -> bool {
+    let (r, p) = Kinematics::from_arm(&sample.arm).forward_kinematics::<Rules>(answer);
+    let reach: f64 = sample.arm[18..].iter().map(|x| x.abs()).sum();
+    let (rotation, place) = sample.pose.split_at(9);
+    let turned = r.by_rows().zip(rotation);
+    let moved = p.iter().zip(place);
+    turned.into_iter().all(|(a, b)| (a - b).abs() <= TOLERANCE)
+        && moved
+            .into_iter()
+            .all(|(a, b)| (a - b).abs() <= TOLERANCE * reach)
 }
 
 /// The angle between axes 2 and 5 in a pose, in degrees from 0 to 90.
@@ -110,9 +138,9 @@ pub fn recover<A: Arith>(
         let list = family_answers::<A>(sample.family, sample.n as usize, &kin, &sample.pose);
         if let Some(group) = by.group(&sample) {
             let own = counts.groups.entry(group).or_default();
-            own.count(&list, &sample.angles);
+            own.count(&sample, &list);
         }
-        if !counts.all.count(&list, &sample.angles) && sample.family == TWO_PARALLEL {
+        if !counts.all.count(&sample, &list) && sample.family == TWO_PARALLEL {
             each(place, &sample, explain::<A>(&sample, &list.angles));
         }
     }
@@ -140,7 +168,7 @@ pub fn print_reasons<A: Arith>(
         };
         let kin = Kinematics::from_arm(&sample.arm);
         let list = family_answers::<A>(sample.family, sample.n as usize, &kin, &sample.pose);
-        if Recovered::default().count(&list, &angles) {
+        if Recovered::default().count(&sample, &list) {
             return writeln!(output, "block {place} found");
         }
         let why = explain::<A>(&sample, &list.angles);
