@@ -21,9 +21,11 @@ cargo build --release --offline --quiet --manifest-path oracle/Cargo.toml
 oracle=${CARGO_TARGET_DIR:-oracle/target}/release/oracle
 sizes=(25 50 100 200 400)
 
+columns="poses,unflagged,flagged,missing,answers,flagged answers,evaluations,untrue,flagged but true"
+
 # The counts of recover as a table, with the option that divides the poses.
 counts() {
-    echo "n,$2,poses,unflagged,flagged,missing,answers,flagged answers,evaluations,untrue,flagged but true"
+    echo "n,$2,$columns"
     for n in "${sizes[@]}"; do
         "$oracle" recover reachable 6 "$seed" "$count" "$n" "$1" |
             sed 's/^family 6/all/; s/ [a-z-]* / /g' |

@@ -70,7 +70,8 @@ def axes():
         parts.append(text(LEFT - 8, y + 5, f"{percent:g} %", anchor="end"))
     parts.append(f'<rect x="{LEFT}" y="{TOP}" width="{right - LEFT}" height="{bottom - TOP}" '
                  'fill="none" stroke="#333333"/>')
-    parts.append(text((LEFT + right) / 2, HEIGHT - 20, "n, grid steps over one turn of q1 (log scale)"))
+    parts.append(text((LEFT + right) / 2, HEIGHT - 20,
+                      "n, grid steps over one turn of q1 (log scale)"))
     middle = (TOP + bottom) / 2
     parts.append(text(22, middle, "poses whose own angles are missing, in % (log scale)",
                       more=f' transform="rotate(-90 22 {middle:.1f})"'))
@@ -116,7 +117,8 @@ def main():
     parts = [f'<svg xmlns="http://www.w3.org/2000/svg" width="{WIDTH}" height="{HEIGHT}" '
              f'viewBox="0 0 {WIDTH} {HEIGHT}" font-family="sans-serif">',
              f'<rect width="{WIDTH}" height="{HEIGHT}" fill="#ffffff"/>',
-             text(WIDTH / 2, 28, "Family 6: reachable poses whose own angles are not in the list", 18),
+             text(WIDTH / 2, 28, "Family 6: reachable poses whose own angles are not in the list",
+                  18),
              text(WIDTH / 2, 50, f"{poses:,} poses of the oracle's arms, the same at each n; "
                   "flagged answers count as found", 13, more=' fill="#555555"')]
     parts += axes()
