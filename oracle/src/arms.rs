@@ -28,12 +28,14 @@ const fn minus(v: V) -> V {
 
 /// Axes and offsets in metres.
 struct Design {
+    name: &'static str,
     h: [V; 6],
     p: [V; 7],
 }
 
 /// Close to a Puma 560: shoulder offset, elbow offset, spherical wrist.
 const PUMA: Design = Design {
+    name: "puma",
     h: [Z, Y, Y, Z, Y, Z],
     p: [
         [0.0, 0.0, 0.6718],
@@ -48,6 +50,7 @@ const PUMA: Design = Design {
 
 /// Close to a large palletising robot with the axes 1 and 2 apart.
 const LARGE: Design = Design {
+    name: "large",
     h: [Z, Y, Y, X, Y, X],
     p: [
         O,
@@ -62,6 +65,7 @@ const LARGE: Design = Design {
 
 /// The same build with the makers' other sense of turning.
 const LARGE_REVERSED: Design = Design {
+    name: "large-reversed",
     h: [minus(Z), Y, Y, minus(X), Y, minus(X)],
     p: [
         [0.0, 0.0, 0.675],
@@ -76,6 +80,7 @@ const LARGE_REVERSED: Design = Design {
 
 /// A lightweight arm with its third joint locked, so that axes 1 and 2 meet.
 const LIGHT: Design = Design {
+    name: "light",
     h: [Z, Y, minus(Y), Z, Y, Z],
     p: [
         [0.0, 0.0, 0.36],
@@ -90,6 +95,7 @@ const LIGHT: Design = Design {
 
 /// The same with the locked joint a quarter turn on.
 const LIGHT_TURNED: Design = Design {
+    name: "light-turned",
     h: [Z, Y, X, Z, Y, Z],
     p: [
         [0.0, 0.0, 0.34],
@@ -104,6 +110,7 @@ const LIGHT_TURNED: Design = Design {
 
 /// A spherical wrist behind three axes of which no two are parallel or meet.
 const SKEW: Design = Design {
+    name: "skew",
     h: [Z, Y, [0.0, 0.6, 0.8], X, Y, X],
     p: [
         [0.0, 0.0, 0.4],
@@ -118,6 +125,7 @@ const SKEW: Design = Design {
 
 /// A spherical wrist behind axes z, y, x that do not meet.
 const CRANE: Design = Design {
+    name: "crane",
     h: [Z, Y, X, Z, Y, Z],
     p: [
         [0.0, 0.0, 0.3],
@@ -132,6 +140,7 @@ const CRANE: Design = Design {
 
 /// Close to a UR5.
 const SMALL_COBOT: Design = Design {
+    name: "small-cobot",
     h: [Z, Y, Y, Y, minus(Z), Y],
     p: [
         [0.0, 0.0, 0.089159],
@@ -146,6 +155,7 @@ const SMALL_COBOT: Design = Design {
 
 /// Close to a UR10.
 const LARGE_COBOT: Design = Design {
+    name: "large-cobot",
     h: [Z, Y, Y, Y, minus(Z), Y],
     p: [
         [0.0, 0.0, 0.1273],
@@ -160,6 +170,7 @@ const LARGE_COBOT: Design = Design {
 
 /// Three parallel axes and a wrist whose last two axes do not meet.
 const OFFSET_COBOT: Design = Design {
+    name: "offset-cobot",
     h: [Z, Y, Y, Y, minus(Z), Y],
     p: [
         [0.0, 0.0, 0.1625],
@@ -174,6 +185,7 @@ const OFFSET_COBOT: Design = Design {
 
 /// The same build with its last axis along x.
 const OFFSET_COBOT_X: Design = Design {
+    name: "offset-cobot-x",
     h: [Z, X, X, X, Z, X],
     p: [
         [0.0, 0.0, 0.2],
@@ -188,6 +200,7 @@ const OFFSET_COBOT_X: Design = Design {
 
 /// A cobot with wrist offsets, axes 2 and 3 parallel.
 const WRIST_OFFSET: Design = Design {
+    name: "wrist-offset",
     h: [Z, Y, Y, X, Y, X],
     p: [
         [0.0, 0.0, 0.265],
@@ -202,6 +215,7 @@ const WRIST_OFFSET: Design = Design {
 
 /// Close to a painting arm whose last offset lies across.
 const ACROSS: Design = Design {
+    name: "across",
     h: [Z, Y, Y, X, Y, X],
     p: [
         [0.0, 0.0, 0.245],
@@ -216,6 +230,7 @@ const ACROSS: Design = Design {
 
 /// Axes 2 and 3 meet, so that subproblem 5's quartic is a square and its roots are double.
 const MEETING: Design = Design {
+    name: "meeting",
     h: [Z, Y, [0.0, 0.6, 0.8], X, Y, X],
     p: [
         [0.0, 0.0, 0.4],
@@ -231,6 +246,7 @@ const MEETING: Design = Design {
 /// p5 has no part along y, so that subproblem 6's two ellipses share an axis and its answers are
 /// NaN.
 const SHARED_AXIS: Design = Design {
+    name: "shared-axis",
     h: [Z, X, X, X, Z, X],
     p: [
         [0.0, 0.0, 0.2],
@@ -245,6 +261,7 @@ const SHARED_AXIS: Design = Design {
 
 /// Close to a cobot that is sold: p4 lies along axis 4, with the same result.
 const ALONG_AXIS: Design = Design {
+    name: "along-axis",
     h: [Z, Y, Y, X, Y, X],
     p: [
         [0.0, 0.0, 0.265],
@@ -314,12 +331,17 @@ fn random_design(family: u64, rng: &mut Rng) -> Design {
     if family == 4 {
         p[5] = O;
     }
-    Design { h, p }
+    Design {
+        name: "random-axes",
+        h,
+        p,
+    }
 }
 
 /// Random offsets on axes along x, y and z.
 fn random_square_design(family: u64, rng: &mut Rng) -> Design {
     let mut design = random_design(family, rng);
+    design.name = "random-offsets";
     design.h = designs(family)[rng.below(designs(family).len())].h;
     design
 }
@@ -337,8 +359,8 @@ fn numbers(design: &Design, rng: &mut Rng) -> Arm {
     arm
 }
 
-/// A realistic arm of the family.
-pub fn realistic(family: u64, rng: &mut Rng) -> Arm {
+/// A realistic arm of the family, and what it is called in counts.
+pub fn realistic(family: u64, rng: &mut Rng) -> (Arm, &'static str) {
     let known = designs(family);
     let choice = rng.below(known.len() + 2);
     let made;
@@ -353,10 +375,11 @@ pub fn realistic(family: u64, rng: &mut Rng) -> Arm {
             &made
         }
     };
-    numbers(design, rng)
+    (numbers(design, rng), design.name)
 }
 
 /// An arm of the family that leads its solver into double roots or divisions by zero.
-pub fn degenerate(family: u64, rng: &mut Rng) -> Arm {
-    numbers(degenerate_design(family), rng)
+pub fn degenerate(family: u64, rng: &mut Rng) -> (Arm, &'static str) {
+    let design = degenerate_design(family);
+    (numbers(design, rng), design.name)
 }

@@ -48,6 +48,7 @@ pub struct Sample {
     pub family: u64,
     pub n: u64,
     pub arm: Arm,
+    pub arm_name: &'static str,
     pub pose: [f64; 12],
     /// The angles that made the pose, before any change to it.
     pub angles: [f64; 6],
@@ -98,7 +99,7 @@ pub fn sample(kind: Kind, family: u64, seed: u64, place: u64, n: Option<u64>) ->
         Kind::Random => randomise(&mut sample, rng),
         Kind::Hostile => make_hostile(&mut sample, rng),
         Kind::Degenerate => {
-            sample.arm = degenerate(family, rng);
+            (sample.arm, sample.arm_name) = degenerate(family, rng);
             sample.pose = pose_of(&sample.arm, &sample.angles);
         }
     }
@@ -107,12 +108,13 @@ pub fn sample(kind: Kind, family: u64, seed: u64, place: u64, n: Option<u64>) ->
 
 fn reachable(family: u64, n: Option<u64>, rng: &mut Rng) -> Sample {
     let n = pick_n(family, n, rng);
-    let arm = realistic(family, rng);
+    let (arm, arm_name) = realistic(family, rng);
     let angles = std::array::from_fn(|_| rng.between(-PI, PI));
     Sample {
         family,
         n,
         arm,
+        arm_name,
         pose: pose_of(&arm, &angles),
         angles,
     }
@@ -185,7 +187,7 @@ fn make_hostile(sample: &mut Sample, rng: &mut Rng) {
         4 => use_plain_numbers(sample, rng),
         5 if sample.family == SPHERICAL && rng.once_in(2) => crowd(sample, rng),
         5 => {
-            sample.arm = degenerate(sample.family, rng);
+            (sample.arm, sample.arm_name) = degenerate(sample.family, rng);
             sample.pose = pose_of(&sample.arm, &sample.angles);
         }
         _ => {

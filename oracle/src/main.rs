@@ -8,6 +8,7 @@ mod block;
 mod cases;
 mod complex;
 mod differ;
+mod errors;
 mod functions;
 mod generate;
 mod inputs;
@@ -16,6 +17,7 @@ mod inverse_kinematics;
 #[cfg(test)]
 mod known_results;
 mod linalg;
+mod missed;
 mod nearest;
 mod odd;
 mod recover;
@@ -29,6 +31,7 @@ use arith::{Arith, Machine, Rules};
 use block::canonical_bits;
 use functions::{Function, Group};
 use inverse_kinematics::{auxiliary::Kinematics, two_parallel_search};
+use recover::By;
 use std::io::{self, BufRead, BufWriter, Read, Write};
 use std::process::ExitCode;
 
@@ -44,7 +47,15 @@ usage: oracle COMMAND
                                          hostile, headers or degenerate
   angles KIND FAMILY SEED COUNT [N]      the angles that made the poses of generate's blocks
   recover KIND FAMILY SEED COUNT [N]     how many poses, reachable or degenerate, have their own
-                                         angles among their answers (n = 200 in family 6)
+                                         angles among their answers (n = 200 in family 6);
+                                         --arms adds a line for each arm, --tilt for each range
+                                         of the angle between axes 2 and 5
+  missed KIND SEED COUNT [N]             family 6: the poses that have not, each with the reason
+  explain Q1 Q2 Q3 Q4 Q5 Q6              family 6: whether the angles that made a block's pose are
+                                         among its answers, and if not, the reason
+  errors ANGLE..                         family 6: subproblem 6's answers and the search's error
+                                         for each block at angles; k7 is grid point 7, and
+                                         A:B:7 are 7 steps from A to B
   differ FAMILY SEED COUNT [N]           the largest difference between the answers under
                                          document 01's rules and under the machine's functions
   cases GROUP SEED COUNT [ID..]          test records; GROUP is float, linear, complex, polynomial,
@@ -61,6 +72,7 @@ struct CommandLine {
     words: Vec<String>,
     machine: bool,
     list: bool,
+    by: By,
     room: usize,
 }
 
@@ -82,6 +94,7 @@ fn parse(arguments: impl Iterator<Item = String>) -> Result<CommandLine, Failure
         words: Vec::new(),
         machine: false,
         list: false,
+        by: By::Nothing,
         room: 1024,
     };
     let mut arguments = arguments;
@@ -89,6 +102,8 @@ fn parse(arguments: impl Iterator<Item = String>) -> Result<CommandLine, Failure
         match argument.as_str() {
             "--machine" => line.machine = true,
             "--list" => line.list = true,
+            "--arms" => line.by = By::Arm,
+            "--tilt" => line.by = By::Tilt,
             "--room" => {
                 let room = arguments.next().ok_or("--room needs a number")?;
                 line.room = number(&room)? as usize;
@@ -134,7 +149,30 @@ fn command<A: Arith>(line: &CommandLine, output: &mut impl Write) -> Result<(), 
         }
         ["recover", kind @ ("reachable" | "degenerate"), family, seed, count, ref n @ ..] => {
             let request = Generated::parse(kind, family, seed, count, n)?;
-            told(request.write_recovered::<A>(output))
+            told(request.write_recovered::<A>(output, line.by))
+        }
+        ["missed", kind @ ("reachable" | "degenerate"), seed, count, ref n @ ..] => {
+            let request = Generated::parse(kind, "6", seed, count, n)?;
+            told(request.write_missed::<A>(output))
+        }
+        ["explain", ref angles @ ..] => {
+            let angles = angles
+                .iter()
+                .map(|word| word.parse().map_err(|_| format!("{word} is no angle")))
+                .collect::<Result<Vec<f64>, Failure>>()?;
+            let angles = angles.try_into().map_err(|_| "six angles are wanted")?;
+            told(recover::print_reasons::<A>(
+                &mut io::stdin().lock(),
+                output,
+                angles,
+            ))
+        }
+        ["errors", ref angles @ ..] => {
+            let angles = angles
+                .iter()
+                .map(|word| errors::parse(word))
+                .collect::<Result<_, _>>()?;
+            told(errors::print::<A>(&mut io::stdin().lock(), output, angles))
         }
         ["differ", family, seed, count, ref n @ ..] => {
             let request = Generated::parse("reachable", family, seed, count, n)?;
@@ -277,33 +315,54 @@ impl Generated {
         Ok(())
     }
 
-    fn write_recovered<A: Arith>(&self, output: &mut impl Write) -> io::Result<()> {
-        let n = self.n.unwrap_or(200);
-        let r = recover::recover::<A>(self.kind, self.family, self.seed, self.count, Some(n));
-        writeln!(
-            output,
-            "family {} poses {} unflagged {} flagged {} missed {} answers {} evals {}",
-            self.family,
-            r.poses,
-            r.unflagged,
-            r.flagged,
-            r.poses - r.unflagged - r.flagged,
-            r.answers,
-            r.evaluations
-        )
+    fn write_recovered<A: Arith>(&self, output: &mut impl Write, by: By) -> io::Result<()> {
+        let counts = recover::recover::<A>(self, by, |_, _, _| ());
+        write_counts(output, &format!("family {}", self.family), &counts.all)?;
+        for (name, r) in &counts.groups {
+            write_counts(output, name, r)?;
+        }
+        Ok(())
     }
+
+    /// A line for each missed pose with its class, then the classes' counts.
+    fn write_missed<A: Arith>(&self, output: &mut impl Write) -> io::Result<()> {
+        let mut missed = Vec::new();
+        recover::recover::<A>(self, By::Nothing, |place, sample, why| {
+            missed.push((place, sample.arm_name, sample.angles[0], why))
+        });
+        for (place, arm, q1, why) in &missed {
+            writeln!(output, "pose {place} {arm} q1 {q1:?} {why}")?;
+        }
+        for (class, name) in missed::CLASSES {
+            let count = missed.iter().filter(|m| m.3.class == class).count();
+            writeln!(output, "class {name} {count}")?;
+        }
+        Ok(())
+    }
+}
+
+fn write_counts(output: &mut impl Write, name: &str, r: &recover::Recovered) -> io::Result<()> {
+    writeln!(
+        output,
+        "{name} poses {} unflagged {} flagged {} missed {} answers {} of-them-flagged {} \
+         evals {} untrue {} flagged-but-true {}",
+        r.poses,
+        r.unflagged,
+        r.flagged,
+        r.missed(),
+        r.answers,
+        r.flagged_answers,
+        r.evaluations,
+        r.untrue,
+        r.flagged_true
+    )
 }
 
 /// One line for each block: its place, the pairs and the evaluations; then one for each pair: q1,
 /// the component, and what added it. Blocks that are refused or not of family 6 have no pairs.
 fn print_pairs<A: Arith>(input: &mut impl Read, output: &mut impl Write) -> io::Result<()> {
     block::for_each_block(input, |place, bytes| {
-        let request = block::parse(bytes).ok().filter(|request| {
-            let numbers = request.arm.iter().chain(&request.pose);
-            request.family == solve::TWO_PARALLEL
-                && (1..=400).contains(&request.n)
-                && numbers.into_iter().all(|x| x.is_finite())
-        });
+        let request = errors::two_parallel_request(bytes);
         let Some(request) = request else {
             return writeln!(output, "block {place} pairs 0 evals 0");
         };

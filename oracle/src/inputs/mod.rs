@@ -87,7 +87,7 @@ fn put_ordinary(kind: Kind, numbers: &mut Vec<f64>, rng: &mut Rng) {
         Kind::Matrix if rng.once_in(2) => numbers.extend(rotation(rng).by_rows()),
         Kind::Arm => {
             let family = 1 + rng.below(6) as u64;
-            numbers.extend(realistic(family, rng));
+            numbers.extend(realistic(family, rng).0);
         }
         _ => {
             let size = rng.pick(&[1.0, 2.0, 10.0]);

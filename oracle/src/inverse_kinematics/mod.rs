@@ -435,6 +435,29 @@ fn error_given_q1<A: Arith>(r_06: &Matrix3, kin: &Kinematics, q1: f64, p_16: &Ve
     error
 }
 
+/// An arm and a pose of family 6, for a look at the error that its search goes over.
+pub struct TwoParallel<'a> {
+    r_06: &'a Matrix3,
+    kin: &'a Kinematics,
+    p_16: Vector3,
+}
+
+impl<'a> TwoParallel<'a> {
+    pub fn new(r_06: &'a Matrix3, p_0t: &Vector3, kin: &'a Kinematics) -> Self {
+        let p_16 = p_0t - kin.p.column(0) - r_06 * kin.p.column(6);
+        TwoParallel { r_06, kin, p_16 }
+    }
+
+    /// Subproblem 6's answers (q6, q4) at q1.
+    pub fn pairs<A: Arith>(&self, q1: f64) -> Vec<(f64, f64)> {
+        t64_given_q1::<A>(self.r_06, self.kin, q1, &self.p_16).get_all()
+    }
+
+    pub fn error<A: Arith>(&self, q1: f64) -> [f64; 4] {
+        error_given_q1::<A>(self.r_06, self.kin, q1, &self.p_16)
+    }
+}
+
 /// The search over q1 that two_parallel starts from.
 pub fn two_parallel_search<A: Arith>(
     r_06: &Matrix3,
