@@ -3,8 +3,10 @@ use mathlib.Core.Path.{_≡_, refl}
 use mathlib.Core.List.{List, [], _∷_}
 use mathlib.Core.Bool.{true, false}
 use Prim.Native.Nat.{ℕ}
+use borrow.Author.Tests.{eq-eqb}
 use lib.IntN.{pos, negsuc}
 use lib.Ieee.{binary64, add, sub, mul, div, neg, rem, lt, eq, isNan, ofInt, ofBits, toBits}
+use lib.ListN.{length}
 use Rattle.float.specs.Num.{whole, nought, two, pi, frac-pi-2}
 use Rattle.float.specs.Root.{sqrt}
 use Rattle.float.specs.Sine.{sin, cos}
@@ -19,7 +21,8 @@ use Rattle.linear.specs.Vector.{norm}
 use Rattle.solutionset.specs.declared.SolutionSet2.the-variants.{One, Two}
 use Rattle.subproblems.specs.Subproblem1.{subproblem1}
 use Rattle.subproblems.specs.Subproblem4.{subproblem4}
-use Rattle.examples.specs.KnownResults.{KnownResults, num, x-axis, y-axis, z-axis, vector-2, vector-3, vector-5, matrix-2, quadratic}
+use Rattle.solve.specs.Judge.{judge}
+use Rattle.examples.specs.KnownResults.{KnownResults, Judged, num, x-axis, y-axis, z-axis, vector-2, vector-3, vector-5, matrix-2, quadratic}
 
 self-convolve-2 : vec-self-convolve-2 (vector-2 1 2) ≡ vector-3 1 4 4
 unfolding vec-self-convolve-2 mul ofInt ofBits
@@ -71,6 +74,22 @@ sqrt-of-two : toBits binary64 (sqrt two) ≡ 0x3ff6_a09e_667f_3bcd
 unfolding sqrt ofBits toBits
 sqrt-of-two = refl
 
+samples-1 : Judged 1 0
+unfolding judge
+samples-1 arm pose s = rw (eq-eqb (length arm) 39 (s .arm-long), eq-eqb (length pose) 12 (s .pose-long), s .arm-finite, s .pose-finite)
+
+samples-400 : Judged 400 0
+unfolding judge
+samples-400 arm pose s = rw (eq-eqb (length arm) 39 (s .arm-long), eq-eqb (length pose) 12 (s .pose-long), s .arm-finite, s .pose-finite)
+
+samples-0 : Judged 0 7
+unfolding judge
+samples-0 arm pose s = rw (eq-eqb (length arm) 39 (s .arm-long), eq-eqb (length pose) 12 (s .pose-long))
+
+samples-401 : Judged 401 7
+unfolding judge
+samples-401 arm pose s = rw (eq-eqb (length arm) 39 (s .arm-long), eq-eqb (length pose) 12 (s .pose-long))
+
 pub known-results : KnownResults
 known-results =
     record {
@@ -86,4 +105,8 @@ known-results =
       touching = touching;
       crossing = crossing;
       sqrt-of-two = sqrt-of-two;
+      samples-1 = samples-1;
+      samples-400 = samples-400;
+      samples-0 = samples-0;
+      samples-401 = samples-401;
     }

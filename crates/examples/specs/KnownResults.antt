@@ -5,6 +5,7 @@ use mathlib.Core.Bool.{true, false}
 use Prim.Native.Nat.{ℕ}
 use lib.IntN.{ℤ, pos, negsuc}
 use lib.Ieee.{Float, binary64, neg, toBits}
+use lib.ListN.{length}
 use Rattle.float.specs.Num.{whole, nought, two, pi, frac-pi-2}
 use Rattle.float.specs.Root.{sqrt}
 use Rattle.float.specs.Turn.{wrap-to-pi, inverse-wrap-to-pi}
@@ -23,6 +24,7 @@ use Rattle.subproblems.specs.Subproblem1.{subproblem1}
 use Rattle.subproblems.specs.Subproblem4.{subproblem4}
 use Rattle.subproblems.specs.declared.Solved1.{Solved1}
 use Rattle.subproblems.specs.declared.Solved2.{Solved2}
+use Rattle.solve.specs.Judge.{all-finite, judge}
 
 -- ---- short names for the numbers of the table
 abbrev pub num : ℕ → Float
@@ -56,6 +58,17 @@ y-axis = vector-3 0 1 0
 abbrev pub z-axis : Vector3
 z-axis = vector-3 0 0 1
 
+-- an arm and a pose with which nothing is wrong
+pub record Sound (arm pose : List Float) : Type 0 where
+  pub arm-long : length arm ≡ 39
+  pub pose-long : length pose ≡ 12
+  pub arm-finite : all-finite arm ≡ true
+  pub pose-finite : all-finite pose ≡ true
+
+-- what the solve call says of them before it solves, in family 6 with n samples: 0 is no refusal
+abbrev pub Judged : ℕ → ℕ → Type 0
+Judged n refusal = (arm pose : List Float) → Sound arm pose → judge 6 n arm pose ≡ refusal
+
 pub record KnownResults : Type 0 where
   -- "vec_self_convolve_2(1,2) = (1,4,4)."
   pub self-convolve-2 : vec-self-convolve-2 (vector-2 1 2) ≡ vector-3 1 4 4
@@ -81,3 +94,8 @@ pub record KnownResults : Type 0 where
   pub crossing : subproblem4 x-axis x-axis z-axis nought ≡ record { set = Two frac-pi-2 (neg frac-pi-2); «is_ls» = false }
   -- "sqrt(2) has bits 3ff6a09e667f3bcd."
   pub sqrt-of-two : toBits binary64 (sqrt two) ≡ 0x3ff6_a09e_667f_3bcd
+  -- "For n: 1 and 400 pass, 0 and 401 are refused in family 6."
+  pub samples-1 : Judged 1 0
+  pub samples-400 : Judged 400 0
+  pub samples-0 : Judged 0 7
+  pub samples-401 : Judged 401 7
