@@ -100,7 +100,7 @@ fn cone_polynomials(args: &[f64; 40], out: &mut [u64; 23]) {
 }
 
 fn solve_quartic_roots(args: &[f64; 40], out: &mut [u64; 23]) {
-    let found = polynomial::solve_quartic_roots(Quartic {
+    let found = quartic::solve_quartic_roots(Quartic {
         a: complex_at(args, 0),
         b: complex_at(args, 2),
         c: complex_at(args, 4),
@@ -135,7 +135,7 @@ fn solve_lower_triangular_system_2x2(args: &[f64; 40], out: &mut [u64; 23]) {
 }
 
 fn qr(args: &[f64; 40], out: &mut [u64; 23]) {
-    let f = polynomial::qr(vector4(args, 0), vector4(args, 4));
+    let f = qr::qr(vector4(args, 0), vector4(args, 4));
     let r = f.r;
     let q0 = f.q0;
     let q1 = f.q1;
@@ -150,7 +150,7 @@ fn qr(args: &[f64; 40], out: &mut [u64; 23]) {
 }
 
 fn solve_two_ellipse_numeric(args: &[f64; 40], out: &mut [u64; 23]) {
-    let set = polynomial::solve_two_ellipse_numeric(
+    let set = ellipse::solve_two_ellipse_numeric(
         vector2(args, 0),
         matrix2(args, 2),
         vector2(args, 6),

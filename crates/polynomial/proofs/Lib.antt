@@ -1,2 +1,1 @@
 pub mod Filter
-pub mod Points

@@ -1,11 +1,6 @@
 pub mod Const
 pub mod Convolution
 pub mod Triangular
-pub mod Qr
 pub mod Roots
 pub mod Quadratic
 pub mod Cubic
-pub mod Quartic
-pub mod RootCount
-pub mod Ellipse
-pub mod PolynomialValues

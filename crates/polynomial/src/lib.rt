@@ -1,14 +1,11 @@
-// Polynomials, their roots, and the small systems that the subproblems solve: the Rust's
-// subproblems/auxiliary.rs, with the QR that document 01 fixes. Each function equals its
-// definition in specs/ on every input, and none asks anything of its caller.
+// Polynomials to degree 3, their roots, and a small system that the subproblems solve: of the Rust's
+// subproblems/auxiliary.rs. Each function equals its definition in specs/ on every input, and none
+// asks anything of its caller. So too quartic, qr and ellipse, in crates of their own above this one.
 mod convolution;
 mod cubic_roots;
-mod ellipse;
-mod householder;
 mod quadratic_roots;
-mod quartic_roots;
 mod reals;
-mod terms;
+pub mod terms;
 mod triangular;
 
 use complex::Complex;
@@ -17,11 +14,8 @@ pub use convolution::vec_convolve_3;
 pub use convolution::vec_self_convolve_2;
 pub use convolution::vec_self_convolve_3;
 pub use cubic_roots::solve_cubic_roots;
-pub use ellipse::solve_two_ellipse_numeric;
-pub use householder::qr;
 use linear::Vector3;
 pub use quadratic_roots::solve_quadratic_roots;
-pub use quartic_roots::solve_quartic_roots;
 pub use reals::real_parts;
 pub use reals::real_quartic;
 pub use triangular::solve_lower_triangular_system_2x2;
@@ -97,13 +91,4 @@ pub struct Conic {
     pub d: f64,
     pub e: f64,
     pub f: f64,
-}
-
-// The four columns of Q, of which the last two are the null vectors, and R.
-pub struct QrFactors {
-    pub q0: Vector4,
-    pub q1: Vector4,
-    pub q2: Vector4,
-    pub q3: Vector4,
-    pub r: Matrix2,
 }

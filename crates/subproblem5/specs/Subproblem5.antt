@@ -19,7 +19,7 @@ use Rattle.solutionset.specs.declared.TripleSet4.{TripleSet4}
 use Rattle.solutionset.specs.declared.TripleSlots4.{TripleSlots4}
 use Rattle.polynomial.specs.Const.{four}
 use Rattle.polynomial.specs.Convolution.{vec-self-convolve-2, vec-self-convolve-3, vec-convolve-3, cone-polynomials}
-use Rattle.polynomial.specs.Quartic.{solve-quartic-roots}
+use Rattle.quartic.specs.Quartic.{solve-quartic-roots}
 use Rattle.polynomial.specs.Roots.{roots, real-parts, real-quartic}
 use Rattle.polynomial.specs.declared.Cone.{Cone}
 use Rattle.polynomial.specs.declared.Vector2.{Vector2}

@@ -94,7 +94,7 @@ fn h_vec(c1: Cone, c3: Cone) -> Slots4
     ensures { λ r. ⌜ r ≡ floats.slots (h-vec c1 c3) ⌝ }
 {
     let eqn = polynomial::real_quartic(eqn_real(c1, c3));
-    polynomial::real_parts(1e-6, polynomial::solve_quartic_roots(eqn))
+    polynomial::real_parts(1e-6, quartic::solve_quartic_roots(eqn))
 }
 
 fn sq(c: Circle, h: f64) -> f64

@@ -44,7 +44,7 @@ fn entry(
 fn plane(a0: Vector4, a1: Vector4, b: Vector2) -> Plane
     ensures { λ r. ⌜ r ≡ plane a0 a1 b ⌝ }
 {
-    let f = polynomial::qr(a0, a1);
+    let f = qr::qr(a0, a1);
     let q0 = f.q0;
     let q1 = f.q1;
     let x_null_1 = f.q2;
@@ -91,7 +91,7 @@ fn unit_points(s: Plane) -> PairSet4
         m10: n1.w,
         m11: n2.w,
     };
-    polynomial::solve_two_ellipse_numeric(xm1, xn1, xm2, xn2)
+    ellipse::solve_two_ellipse_numeric(xm1, xn1, xm2, xn2)
 }
 
 // The two angles of a solution.

@@ -1,6 +1,6 @@
 -- Each call gives an equation.
 use mathlib.Core.Path.{_≡_}
-use Rattle.polynomial.specs.Quartic.{solve-quartic-roots}
+use Rattle.quartic.specs.Quartic.{solve-quartic-roots}
 use Rattle.polynomial.specs.Roots.{roots, real-parts, real-quartic}
 use Rattle.polynomial.specs.declared.Cone.{Cone}
 use Rattle.polynomial.specs.declared.Quartic.{Quartic}

@@ -1,0 +1,2 @@
+pub mod Qr
+pub mod PolynomialValues

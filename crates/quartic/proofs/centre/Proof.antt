@@ -1,0 +1,17 @@
+-- The calls' equations, joined.
+use Rattle.quartic.specs.Quartic.{centre}
+use Rattle.quartic.proofs.centre.Statement.{statement}
+use Rattle.quartic.proofs.centre.Tie as tie
+
+returns : tie.Need-returns
+unfolding centre
+returns c = cc
+
+pub centre-spec : {M : Type 1} → statement M
+centre-spec =
+    tie.close
+    (tie.spec
+    (λ _ _. tt)
+    (λ _ _. tt)
+    (λ _ _. tt)
+    returns)

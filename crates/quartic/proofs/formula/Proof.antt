@@ -1,0 +1,39 @@
+-- The calls, one equation each.
+use mathlib.Core.Path.{_≡_}
+use Rattle.complex.specs.declared.Complex.{Complex}
+use Rattle.quartic.specs.Quartic.{p1, q1, p2, q2, p3, p4, p5, p6, four-roots, formula}
+use Rattle.polynomial.specs.declared.Roots.{Roots}
+use Rattle.quartic.proofs.formula.Statement.{statement}
+use Rattle.quartic.proofs.formula.Tie as tie
+
+met : (a b c d e : Complex) {s1 t1 s2 t2 s3 s4 s5 s6 : Complex} {r : Roots}
+    → s1 ≡ p1 a b c d e
+    → t1 ≡ q1 a b c d e
+    → s2 ≡ p2 s1 t1
+    → t2 ≡ q2 s2
+    → s3 ≡ p3 a t1 t2
+    → s4 ≡ p4 a b c s3
+    → s5 ≡ p5 a b c s3
+    → s6 ≡ p6 a b c d s4
+    → r ≡ four-roots a b s4 s5 s6
+    → r ≡ formula a b c d e
+unfolding formula
+met a b c d e e1 e2 e3 e4 e5 e6 e7 e8 e9 = cc
+
+returns : tie.Need-returns
+returns c = search met
+
+pub formula-spec : {M : Type 1} → statement M
+formula-spec =
+    tie.close
+    (tie.spec
+    (λ _ _. tt)
+    (λ _ _. tt)
+    (λ _ _. tt)
+    (λ _ _. tt)
+    (λ _ _. tt)
+    (λ _ _. tt)
+    (λ _ _. tt)
+    (λ _ _. tt)
+    (λ _ _. tt)
+    returns)

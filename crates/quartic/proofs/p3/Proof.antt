@@ -1,0 +1,19 @@
+-- The calls' equations, joined.
+use Rattle.quartic.specs.Quartic.{p3}
+use Rattle.quartic.proofs.p3.Statement.{statement}
+use Rattle.quartic.proofs.p3.Tie as tie
+
+returns : tie.Need-returns
+unfolding p3
+returns c = cc
+
+pub p3-spec : {M : Type 1} → statement M
+p3-spec =
+    tie.close
+    (tie.spec
+    (λ _ _. tt)
+    (λ _ _. tt)
+    (λ _ _. tt)
+    (λ _ _. tt)
+    (λ _ _. tt)
+    returns)

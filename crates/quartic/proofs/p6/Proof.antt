@@ -1,0 +1,17 @@
+-- The calls' equations, joined.
+use Rattle.quartic.specs.Quartic.{p6}
+use Rattle.quartic.proofs.p6.Statement.{statement}
+use Rattle.quartic.proofs.p6.Tie as tie
+
+returns : tie.Need-returns
+unfolding p6
+returns c = cc
+
+pub p6-spec : {M : Type 1} → statement M
+p6-spec =
+    tie.close
+    (tie.spec
+    (λ _ _. tt)
+    (λ _ _. tt)
+    (λ _ _. tt)
+    returns)

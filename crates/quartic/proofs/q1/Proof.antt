@@ -1,0 +1,19 @@
+-- The calls' equations, joined.
+use Rattle.quartic.specs.Quartic.{q1}
+use Rattle.quartic.proofs.q1.Statement.{statement}
+use Rattle.quartic.proofs.q1.Tie as tie
+
+returns : tie.Need-returns
+unfolding q1
+returns c = cc
+
+pub q1-spec : {M : Type 1} → statement M
+q1-spec =
+    tie.close
+    (tie.spec
+    (λ _ _. tt)
+    (λ _ _. tt)
+    (λ _ _. tt)
+    (λ _ _. tt)
+    (λ _ _. tt)
+    returns)

@@ -1,0 +1,2 @@
+pub mod Quartic
+pub mod RootCount
