@@ -3,7 +3,7 @@
 // the evaluations, eight answers of six angles and a flag, and a hash. Each record is solved with
 // lists that have room for all answers, and with lists that are too short in one way or another:
 // the answers that fit both stand in the lists, and whatever else they held stands there yet.
-// Records of family 6 are passed over until the crate families has it.
+// Records of family 6, whose lists may be longer, are passed over: the program search_vectors has those.
 // `oracle cases families 1 300` made the stored cases, less those of family 6; tools/compare.sh
 // runs others.
 ghost use Prim.Native.Nat.{_≤_};
