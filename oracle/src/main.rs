@@ -30,8 +30,12 @@ mod subproblems;
 use arith::{Arith, Machine, Rules};
 use block::canonical_bits;
 use functions::{Function, Group};
-use inverse_kinematics::{auxiliary::Kinematics, two_parallel_search};
+use inverse_kinematics::{
+    auxiliary::{search_1d_bracketed, stand_in, Kinematics, Search},
+    two_parallel_search,
+};
 use recover::By;
+use std::f64::consts::PI;
 use std::io::{self, BufRead, BufWriter, Read, Write};
 use std::process::ExitCode;
 
@@ -41,6 +45,7 @@ usage: oracle COMMAND
   blocks [--room N]                      solve the 512-byte blocks on standard input
   pairs                                  the search's list for each block of family 6, with what
                                          added each pair
+  stand-in N                             the same for an error that is easy to write down
   call NAME                              run one function on each line of hexadecimal arguments
   call --list                            the functions with their argument words
   generate KIND FAMILY SEED COUNT [N]    blocks; KIND is reachable, unreachable, bent, random,
@@ -134,6 +139,13 @@ fn command<A: Arith>(line: &CommandLine, output: &mut impl Write) -> Result<(), 
             line.room,
         )),
         ["pairs"] => told(print_pairs::<A>(&mut io::stdin().lock(), output)),
+        ["stand-in", n] => {
+            let n = n.parse().map_err(|_| format!("no number of samples: {n}"))?;
+            told(print_search(
+                &search_1d_bracketed(stand_in, -PI, PI, n, 0.5),
+                output,
+            ))
+        }
         ["call"] if line.list => told(list_functions(output)),
         ["call", name] => {
             let function = functions::by_name(name).ok_or(format!("no function {name}"))?;
@@ -369,14 +381,19 @@ fn print_pairs<A: Arith>(input: &mut impl Read, output: &mut impl Write) -> io::
         let (r, p) = solve::pose_parts(&request.pose);
         let kin = Kinematics::from_arm(&request.arm);
         let search = two_parallel_search::<A>(&r, &p, &kin, request.n as usize);
-        let (pairs, evaluations) = (search.zeros.len(), search.evaluations);
-        writeln!(output, "block {place} pairs {pairs} evals {evaluations}")?;
-        for found in &search.zeros {
-            let bits = canonical_bits(found.x);
-            writeln!(output, "{bits:016x} {} {}", found.component, found.origin)?;
-        }
-        Ok(())
+        write!(output, "block {place} ")?;
+        print_search(&search, output)
     })
+}
+
+fn print_search(search: &Search, output: &mut impl Write) -> io::Result<()> {
+    let (pairs, evaluations) = (search.zeros.len(), search.evaluations);
+    writeln!(output, "pairs {pairs} evals {evaluations}")?;
+    for found in &search.zeros {
+        let bits = canonical_bits(found.x);
+        writeln!(output, "{bits:016x} {} {}", found.component, found.origin)?;
+    }
+    Ok(())
 }
 
 fn list_functions(output: &mut impl Write) -> io::Result<()> {

@@ -377,6 +377,16 @@ pub fn search_1d_bracketed<const N: usize, F: Fn(f64) -> [f64; N]>(
     }
 }
 
+/// An error that is easy to write down, to try a search on. Component 0 has crossings; component 1
+/// has two roots in a dip, and then its branch ends.
+pub fn stand_in(x: f64) -> [f64; 2] {
+    let second = (x - 0.2) * (x - 0.2) - 0.01;
+    [
+        (x - 1.0) * (x + 2.0) * (x + 0.5),
+        if x < 2.0 { second } else { f64::INFINITY },
+    ]
+}
+
 #[cfg(test)]
 mod tests {
     use super::*;
@@ -386,15 +396,6 @@ mod tests {
         inverse_kinematics::{error_given_q1, two_parallel_search},
         solve::pose_parts,
     };
-
-    /// Component 0 has crossings; component 1 has two roots in a dip, and then its branch ends.
-    fn stand_in(x: f64) -> [f64; 2] {
-        let second = (x - 0.2) * (x - 0.2) - 0.01;
-        [
-            (x - 1.0) * (x + 2.0) * (x + 0.5),
-            if x < 2.0 { second } else { f64::INFINITY },
-        ]
-    }
 
     fn kinds(search: &Search, component: usize) -> Vec<Origin> {
         let pairs = search.zeros.iter();
