@@ -65,6 +65,20 @@ fn dip(
     is_part(book, j, f.pairs, qs[0], qs[1])
 }
 
+// Whether no run of finite samples goes on at l, in a row of m samples.
+fn ends(ys: &[f64], m: usize, l: usize) -> bool
+    requires { ⌜ m ≤ length (now ys) ⌝ }
+{
+    if l < m { !is_finite(ys[l]) } else { true }
+}
+
+// Whether none came before l.
+fn begins(ys: &[f64], l: usize) -> bool
+    requires { ⌜ l ≤ length (now ys) ⌝ }
+{
+    if l > 0 { !is_finite(ys[l - 1]) } else { true }
+}
+
 // Whether the place that pair j has in a row of m samples gives that pair.
 fn in_row(
     given: Given,
@@ -88,8 +102,8 @@ fn in_row(
     match record::word(book, j, record::PLACE) {
         0 => crossing(given, i, xs, ys, l, book, j),
         1 => l > 0 && dip(given, i, xs, ys, l - 1, l + 1, book, j),
-        2 => dip(given, i, xs, ys, l, l + 1, book, j),
-        3 => dip(given, i, xs, ys, l, l + 1, book, j),
+        2 => ends(ys, m, l + 2) && dip(given, i, xs, ys, l, l + 1, book, j),
+        3 => begins(ys, l) && dip(given, i, xs, ys, l, l + 1, book, j),
         _ => false,
     }
 }
