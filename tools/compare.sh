@@ -17,7 +17,8 @@ done
 shift $((OPTIND - 1))
 groups=("$@")
 if [ ${#groups[@]} -eq 0 ]; then
-    mapfile -t groups < <(sed -n 's/^\([a-z_]*\)_vectors:.*/\1/p' crates.txt)
+    # search_vectors has records of another kind: tools/compare_search.sh.
+    mapfile -t groups < <(sed -n '/^search_/d; s/^\([a-z_]*\)_vectors:.*/\1/p' crates.txt)
 fi
 
 log=$(mktemp -d)

@@ -160,6 +160,17 @@ families: 112 words: id (the family, 1 to 6), n (0 for 1 to 5), arm 39, pose 12 
    (six angles, flag), and the 64-bit FNV-1a hash over the little-endian bytes of all answers'
    words in their order. Arm and pose are finite and n is in range, so the solve call accepts
    every record.
+
+Searches, as `oracle searches KIND SEED COUNT [N]` writes them: 54 words, then 13 for each pair.
+   The 54 are n, arm 39, pose 12, the number of pairs, the evaluations. A pair's 13 are q1, the
+   component, what added it as four words, and its answer: six angles, flag.
+   What added it: first the row of samples, 0 for the grid or k + 1 for those between the grid's
+   samples k and k + 1, where the branch ends; then 0 for a crossing, 1 for a dip about an inner
+   sample, 2 for one at the row's end, 3 at its start; then the index of a sample of the row,
+   counted on the grid from its first, in an edge from its left: the lowest one of an inner dip,
+   else the left one of the two; then the part of a dip, 0 for one that does not cross zero, 1 and
+   2 for the refinements left and right of the lowest point of one that does. It is 0 for a
+   crossing.
 ";
 
 #[cfg(test)]

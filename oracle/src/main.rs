@@ -23,6 +23,7 @@ mod odd;
 mod recover;
 mod rng;
 mod run;
+mod searches;
 mod solutionset;
 mod solve;
 mod subproblems;
@@ -65,6 +66,8 @@ usage: oracle COMMAND
                                          document 01's rules and under the machine's functions
   cases GROUP SEED COUNT [ID..]          test records; GROUP is float, linear, complex, polynomial,
                                          subproblems, kinematics or families
+  searches KIND SEED COUNT [N]           searches of family 6 with all that they find, as records;
+                                         without N, n goes from 1 to 400 and begins again
   layout                                 the layouts of the test records
   bench GROUP ID COUNT SEED [N]          run one function COUNT times over inputs made before;
                                          the group family is families
@@ -198,6 +201,10 @@ fn command<A: Arith>(line: &CommandLine, output: &mut impl Write) -> Result<(), 
                 .collect::<Result<Vec<_>, _>>()?;
             told(cases::write_cases::<A>(output, group, seed, count, &only))
         }
+        ["searches", kind, seed, count, ref n @ ..] => {
+            let request = Generated::parse(kind, "6", seed, count, n)?;
+            told(request.write_searches::<A>(output))
+        }
         ["layout"] => told(output.write_all(cases::LAYOUT.as_bytes())),
         ["bench", group, id, count, seed, ref n @ ..] => {
             let (group, id) = (group_named(group)?, number(id)?);
@@ -285,6 +292,17 @@ impl Generated {
                 self.count,
                 self.n,
             ))?;
+        }
+        Ok(())
+    }
+
+    fn write_searches<A: Arith>(&self, output: &mut impl Write) -> io::Result<()> {
+        for place in 0..self.count {
+            let n = self.n.unwrap_or(1 + place % 400);
+            let sample = generate::sample(self.kind, self.family, self.seed, place, Some(n));
+            for word in searches::record::<A>(&sample) {
+                output.write_all(&word.to_le_bytes())?;
+            }
         }
         Ok(())
     }

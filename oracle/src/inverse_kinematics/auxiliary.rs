@@ -55,24 +55,47 @@ pub enum DipPart {
     Touch,
 }
 
+/// Which of scan_samples' three tests found a dip: about an inner sample, at the row's end, or at
+/// its start.
+#[derive(Debug, Clone, Copy, PartialEq, Eq)]
+pub enum DipTest {
+    Inner,
+    Last,
+    First,
+}
+
 /// What added a pair to the search's list. In a run, `k` is the grid sample on the left. In an
 /// edge, `k` is the grid sample left of the branch's end, and `at` counts the edge's own samples
 /// from the left.
 #[derive(Debug, Clone, Copy, PartialEq, Eq)]
 pub enum Origin {
-    Crossing { k: usize },
-    Dip { k: usize, part: DipPart },
-    EdgeCrossing { k: usize, at: usize },
-    EdgeDip { k: usize, at: usize, part: DipPart },
+    Crossing {
+        k: usize,
+    },
+    Dip {
+        k: usize,
+        test: DipTest,
+        part: DipPart,
+    },
+    EdgeCrossing {
+        k: usize,
+        at: usize,
+    },
+    EdgeDip {
+        k: usize,
+        at: usize,
+        test: DipTest,
+        part: DipPart,
+    },
 }
 
 impl fmt::Display for Origin {
     fn fmt(&self, f: &mut fmt::Formatter) -> fmt::Result {
         match self {
             Origin::Crossing { k } => write!(f, "crossing {k}"),
-            Origin::Dip { k, part } => write!(f, "dip {k} {part:?}"),
+            Origin::Dip { k, part, .. } => write!(f, "dip {k} {part:?}"),
             Origin::EdgeCrossing { k, at } => write!(f, "edge-crossing {k} {at}"),
-            Origin::EdgeDip { k, at, part } => write!(f, "edge-dip {k} {at} {part:?}"),
+            Origin::EdgeDip { k, at, part, .. } => write!(f, "edge-dip {k} {at} {part:?}"),
         }
     }
 }
@@ -94,13 +117,14 @@ impl Place {
         }
     }
 
-    fn dip(self, at: usize, part: DipPart) -> Origin {
+    fn dip(self, at: usize, test: DipTest, part: DipPart) -> Origin {
         match self {
             Place::Run { first } => Origin::Dip {
                 k: first + at,
+                test,
                 part,
             },
-            Place::Edge { k } => Origin::EdgeDip { k, at, part },
+            Place::Edge { k } => Origin::EdgeDip { k, at, test, part },
         }
     }
 }
@@ -259,7 +283,8 @@ fn scan_samples<const N: usize, F: Fn(f64) -> [f64; N]>(
                 && (y0 < 0.0) == (y2 < 0.0)
             {
                 // A dip that does not cross at the samples: a close root pair or a tangent root.
-                minimise_dip(f, i, x0, x2, y0, y2, |part| place.dip(k - 1, part), zeros);
+                let origin = |part| place.dip(k - 1, DipTest::Inner, part);
+                minimise_dip(f, i, x0, x2, y0, y2, origin, zeros);
             }
         }
     }
@@ -267,11 +292,13 @@ fn scan_samples<const N: usize, F: Fn(f64) -> [f64; N]>(
     if n >= 2 {
         let ((x0, y0), (x1, y1)) = (pts[n - 2], pts[n - 1]);
         if (y0 < 0.0) == (y1 < 0.0) && y1.abs() < touch && y1.abs() <= y0.abs() {
-            minimise_dip(f, i, x0, x1, y0, y1, |part| place.dip(n - 2, part), zeros);
+            let origin = |part| place.dip(n - 2, DipTest::Last, part);
+            minimise_dip(f, i, x0, x1, y0, y1, origin, zeros);
         }
         let ((x0, y0), (x1, y1)) = (pts[0], pts[1]);
         if (y0 < 0.0) == (y1 < 0.0) && y0.abs() < touch && y0.abs() <= y1.abs() {
-            minimise_dip(f, i, x0, x1, y0, y1, |part| place.dip(0, part), zeros);
+            let origin = |part| place.dip(0, DipTest::First, part);
+            minimise_dip(f, i, x0, x1, y0, y1, origin, zeros);
         }
     }
 }
@@ -410,7 +437,8 @@ mod tests {
         let search = search_1d_bracketed(stand_in, -PI, PI, 7, 0.5);
         let crossings = [1, 2, 4].map(|k| Origin::Crossing { k });
         assert_eq!(kinds(&search, 0)[..3], crossings);
-        let dip = |part| Origin::Dip { k: 3, part };
+        let test = DipTest::Inner;
+        let dip = |part| Origin::Dip { k: 3, test, part };
         assert_eq!(
             kinds(&search, 1)[..2],
             [dip(DipPart::Left), dip(DipPart::Right)]
