@@ -1,2 +1,3 @@
+pub mod Points
 pub mod Reduced
 pub mod Subproblem5

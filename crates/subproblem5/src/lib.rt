@@ -21,7 +21,8 @@ pub struct Circle {
     pub j_a_k2: Vector2,
 }
 
-// A point of a circle: its sine and cosine, the point, and its distance from the axis k2.
+// A point of a circle: its sine and cosine, the point, and its distance from the axis k2. The
+// definitions speak of these; the code holds the square of the distance, as below.
 pub struct Side {
     pub sc: Vector2,
     pub v: Vector3,
@@ -31,6 +32,17 @@ pub struct Side {
 pub struct Sides {
     pub plus: Side,
     pub minus: Side,
+}
+
+pub struct Point {
+    pub sc: Vector2,
+    pub v: Vector3,
+    pub distance_sq: f64,
+}
+
+pub struct Points {
+    pub plus: Point,
+    pub minus: Point,
 }
 
 // The candidates of subproblem 5. An unused slot holds zeros.

@@ -1,8 +1,8 @@
 // Subproblem 5.
 use crate::Candidates;
 use crate::Circle;
-use crate::Side;
-use crate::Sides;
+use crate::Point;
+use crate::Points;
 use crate::reduced::reduced_solutionset;
 use linear::Vector3;
 use polynomial::Cone;
@@ -13,6 +13,7 @@ use solutionset::Triple;
 use solutionset::TripleSet4;
 use solutionset::TripleSlots4;
 use subproblems::Columns;
+use subproblems::norms::norms_agree;
 use subproblems::shared::columns;
 use subproblems::subproblem1_theta;
 ghost use mathlib.Core.Path.{_≡_};
@@ -21,6 +22,7 @@ ghost use Prim.Native.Nat.{_<_, _≤_};
 ghost use lib.ListN.{take};
 ghost use Rattle.solutionset.specs.SolutionSet4 as floats;
 ghost use Rattle.solutionset.specs.TripleSet4.{slots};
+ghost use Rattle.subproblem5.specs.Points.{side-of, sides-of};
 ghost use Rattle.subproblem5.specs.Subproblem5.{j-apply, circle, eqn-real, h-vec, sq, side, sides, angles, candidate, signed, at-root, pushed, in-sixteen, subproblem5};
 
 // A quarter turn of the transposed matrix, times k2: the zeros count, for infinities and signs.
@@ -105,8 +107,8 @@ fn sq(c: Circle, h: f64) -> f64
 }
 
 // The point of a circle at the height of hk2, on one side of it.
-fn side(c: Circle, middle: Vector2, pm: Vector2, hk2: Vector3, sign: f64) -> Side
-    ensures { λ r. ⌜ r ≡ side c middle pm hk2 sign ⌝ }
+fn side(c: Circle, middle: Vector2, pm: Vector2, hk2: Vector3, sign: f64) -> Point
+    ensures { λ r. ⌜ side-of r ≡ side c middle pm hk2 sign ⌝ }
 {
     let a = c.a;
     let p_s = c.p_s;
@@ -119,17 +121,17 @@ fn side(c: Circle, middle: Vector2, pm: Vector2, hk2: Vector3, sign: f64) -> Sid
         y: u.y * s + w.y * t + p_s.y,
         z: u.z * s + w.z * t + p_s.z,
     };
-    let distance = linear::norm(linear::sub(v, hk2));
-    Side {
+    let distance_sq = linear::norm_squared(linear::sub(v, hk2));
+    Point {
         sc: Vector2 { x: s, y: t },
         v,
-        distance,
+        distance_sq,
     }
 }
 
 // Both points of a circle at the height h.
-fn sides(c: Circle, h: f64, square: f64, hk2: Vector3) -> Sides
-    ensures { λ r. ⌜ r ≡ sides c h square hk2 ⌝ }
+fn sides(c: Circle, h: f64, square: f64, hk2: Vector3) -> Points
+    ensures { λ r. ⌜ sides-of r ≡ sides c h square hk2 ⌝ }
 {
     let hd = h - c.delta;
     let root = float::sqrt(square);
@@ -143,14 +145,14 @@ fn sides(c: Circle, h: f64, square: f64, hk2: Vector3) -> Sides
         x: j_a_k2.x * root,
         y: j_a_k2.y * root,
     };
-    Sides {
+    Points {
         plus: side(c, middle, pm, hk2, 1.0),
         minus: side(c, middle, pm, hk2, -1.0),
     }
 }
 
-fn angles(k2: Vector3, s1: Side, s3: Side) -> Triple
-    ensures { λ r. ⌜ r ≡ angles k2 s1 s3 ⌝ }
+fn angles(k2: Vector3, s1: Point, s3: Point) -> Triple
+    ensures { λ r. ⌜ r ≡ angles k2 (side-of s1) (side-of s3) ⌝ }
 {
     let sc1 = s1.sc;
     let sc3 = s3.sc;
@@ -164,11 +166,11 @@ fn angles(k2: Vector3, s1: Side, s3: Side) -> Triple
 }
 
 // The candidate of two points, after those found before it.
-fn push(found: TripleSlots4, k2: Vector3, s1: Side, s3: Side) -> TripleSlots4
+fn push(found: TripleSlots4, k2: Vector3, s1: Point, s3: Point) -> TripleSlots4
     requires { ⌜ found .count < 4 ⌝ }
-    ensures { λ r. ⌜ r ≡ pushed found (candidate k2 s1 s3) ⌝ }
+    ensures { λ r. ⌜ r ≡ pushed found (candidate k2 (side-of s1) (side-of s3)) ⌝ }
 {
-    if float::abs(s1.distance - s3.distance) < 1e-6 {
+    if norms_agree(s1.distance_sq, s3.distance_sq) {
         let mut slots = found.slots;
         let n = found.count;
         slots[n] = angles(k2, s1, s3);
@@ -193,8 +195,8 @@ fn no_candidates() -> TripleSlots4
 }
 
 // The candidates of the points of two circles, the signs of the first going slower.
-fn signed(k2: Vector3, s1: Sides, s3: Sides) -> TripleSlots4
-    ensures { λ r. ⌜ r ≡ slots (signed k2 s1 s3) ⌝ }
+fn signed(k2: Vector3, s1: Points, s3: Points) -> TripleSlots4
+    ensures { λ r. ⌜ r ≡ slots (signed k2 (sides-of s1) (sides-of s3)) ⌝ }
 {
     let plus1 = s1.plus;
     let minus1 = s1.minus;

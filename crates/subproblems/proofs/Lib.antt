@@ -1,1 +1,3 @@
 pub mod Commute
+pub mod Fractions
+pub mod RootGap

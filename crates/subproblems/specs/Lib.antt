@@ -1,4 +1,5 @@
 pub mod Columns
+pub mod Norms
 pub mod Subproblem1
 pub mod Subproblem2
 pub mod Subproblem3

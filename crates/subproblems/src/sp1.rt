@@ -1,5 +1,6 @@
 // Subproblem 1: the angle, its flag, and both.
 use crate::Solved1;
+use crate::norms::norms_differ;
 use crate::shared::columns;
 use linear::Vector3;
 ghost use mathlib.Core.Path.{_≡_};
@@ -19,8 +20,11 @@ pub fn subproblem1_theta(p1: Vector3, p2: Vector3, k: Vector3) -> f64
 pub fn subproblem1_is_ls(p1: Vector3, p2: Vector3, k: Vector3, tolerance: f64) -> bool
     ensures { λ r. ⌜ r ≡ subproblem1-is-ls p1 p2 k tolerance ⌝ }
 {
-    let by_norm = float::abs(linear::norm(p1) - linear::norm(p2));
-    if by_norm > tolerance {
+    if norms_differ(
+        linear::norm_squared(p1),
+        linear::norm_squared(p2),
+        tolerance,
+    ) {
         return true;
     }
     let along_k = float::abs(linear::dot(k, p1) - linear::dot(k, p2));

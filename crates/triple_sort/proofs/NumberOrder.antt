@@ -42,7 +42,7 @@ below-one-way false true a b h = absurd (false≢true h)
 below-one-way true false a b h = refl
 below-one-way true true a b h = let l = ltb-true b a h in let k : b ≤ a = omega arith in le-ltb a b k
 
-lt-one-way : (x y : Float) → lt x y ≡ true → lt y x ≡ false
+pub lt-one-way : (x y : Float) → lt x y ≡ true → lt y x ≡ false
 unfolding lt
 lt-one-way nan y h = absurd (false≢true h)
 lt-one-way (inf s) nan h = absurd (false≢true h)
@@ -87,7 +87,7 @@ module _ (a p b q c r : ℕ) (P : 0 < p) (Q : 0 < q) (R : 0 < r) where
   below-through true true true h g =
       le-ltb _ _ (frac-through c r b q a p Q (ltb-false (b * r) (c * q) g) (ltb-false (a * q) (b * p) h))
 
-lt-through : (x y z : Float) → isNan x ≡ false → isNan y ≡ false → lt y x ≡ false → lt z y ≡ false → lt z x ≡ false
+pub lt-through : (x y z : Float) → isNan x ≡ false → isNan y ≡ false → lt y x ≡ false → lt z y ≡ false → lt z x ≡ false
 unfolding lt isNan
 lt-through nan y z i j h g = absurd (true≢false i)
 lt-through (inf true) y nan i j h g = refl

@@ -1,29 +1,31 @@
 -- The test says whether there is a candidate.
 use Prim.Native.Nat.{ℕ, _+_}
 use mathlib.Core.Path.{_≡_}
-use mathlib.Core.Bool.{true, false}
-use lib.Ieee.{Float, lt}
+use mathlib.Core.Bool.{Bool, true, false}
+use lib.Ieee.{lt}
 use lib.ListN.{set}
 use borrow.Author.Needs.{needs}
 use Rattle.float.specs.Num.{_⊖_}
 use Rattle.float.specs.Number.{abs}
+use Rattle.float.specs.Root.{sqrt}
 use Rattle.linear.specs.declared.Vector3.{Vector3}
 use Rattle.solutionset.specs.declared.Triple.{Triple}
 use Rattle.solutionset.specs.declared.TripleSlots4.{TripleSlots4}
+use Rattle.subproblem5.specs.Points.{side-of}
 use Rattle.subproblem5.specs.Subproblem5.{epsilon, angles, candidate, pushed}
-use Rattle.subproblem5.specs.declared.Side.{Side}
+use Rattle.subproblem5.specs.declared.Point.{Point}
 use Rattle.subproblem5.proofs.sp5.push.Statement.{statement}
 use Rattle.subproblem5.proofs.sp5.push.Tie as tie
 
-module _ (found : TripleSlots4) (k2 : Vector3) (s1 s3 : Side) {d : Float} (e-d : d ≡ abs (s1 .distance ⊖ s3 .distance)) where
+module _ (found : TripleSlots4) (k2 : Vector3) (s1 s3 : Point) {b : Bool} (e-b : b ≡ lt (abs (sqrt (s1 .«distance_sq») ⊖ sqrt (s3 .«distance_sq»))) epsilon) where
   one : {t : Triple}
-      → lt d epsilon ≡ true
-      → t ≡ angles k2 s1 s3
-      → _≡_ {A = TripleSlots4} (record { slots = set (found .slots) (found .count) t; count = found .count + 1 }) (pushed found (candidate k2 s1 s3))
+      → b ≡ true
+      → t ≡ angles k2 (side-of s1) (side-of s3)
+      → _≡_ {A = TripleSlots4} (record { slots = set (found .slots) (found .count) t; count = found .count + 1 }) (pushed found (candidate k2 (side-of s1) (side-of s3)))
   unfolding candidate
   one t e = cc
 
-  none : lt d epsilon ≡ false → found ≡ pushed found (candidate k2 s1 s3)
+  none : b ≡ false → found ≡ pushed found (candidate k2 (side-of s1) (side-of s3))
   unfolding candidate
   none t = cc
 
