@@ -4,7 +4,7 @@
 //! lists.
 //!
 //! `solve time FAMILY N POSES ROUNDS` prints: evaluations a solve, and for port, rules and machine
-//! the nanoseconds a solve, the least of all rounds. It stops where port and rules differ in a bit.
+//! the nanoseconds a solve: each few poses take the least of all rounds. It stops where port and rules differ in a bit.
 //! `solve count FAMILY N POSES SIDE` solves each pose once with that side, for callgrind.
 //!
 //! The poses are the first of `oracle generate reachable FAMILY 1 POSES N`.
@@ -132,27 +132,42 @@ fn bench_run(side: Side, samples: &[Sample], lent: &mut Lent) -> u64 {
     evaluations
 }
 
+/// How many poses are timed at once: about as long as a clock can tell, and short enough that the
+/// machine's other work seldom falls into every round.
+fn together(family: u64) -> usize {
+    if family == 6 {
+        1
+    } else {
+        20
+    }
+}
+
 fn time(samples: &[Sample], rounds: u64) {
     let (mut a, mut b) = (Lent::new(), Lent::new());
+    let mut evaluations = 0;
     for s in samples {
         port(s, &mut a);
         rules(s, &mut b);
         assert!(a.words() == b.words(), "port and rules differ");
+        evaluations += a.evaluations;
     }
-    // All sides in turn in every round, and the least time of each.
-    let (mut best, mut evaluations) = ([f64::INFINITY; SIDES.len()], 0);
-    for _ in 0..rounds {
-        for (slot, (name, side)) in best.iter_mut().zip(SIDES) {
-            let start = Instant::now();
-            let made = black_box(bench_run(side, samples, &mut a));
-            *slot = slot.min(start.elapsed().as_secs_f64());
-            if name == "port" {
-                evaluations = made;
+    let mut sums = [0.0; SIDES.len()];
+    for some in samples.chunks(together(samples[0].family)) {
+        // All sides in turn in every round, and the least time of each.
+        let mut best = [f64::INFINITY; SIDES.len()];
+        for _ in 0..rounds {
+            for (slot, (_, side)) in best.iter_mut().zip(SIDES) {
+                let start = Instant::now();
+                black_box(bench_run(side, some, &mut a));
+                *slot = slot.min(start.elapsed().as_secs_f64());
             }
+        }
+        for (sum, least) in sums.iter_mut().zip(best) {
+            *sum += least;
         }
     }
     let each = |x: f64| x / samples.len() as f64;
-    let [port, rules, machine] = best.map(|x| each(x * 1e9));
+    let [port, rules, machine] = sums.map(|x| each(x * 1e9));
     println!("{:.2} {port:.1} {rules:.1} {machine:.1}", each(evaluations as f64));
 }
 
