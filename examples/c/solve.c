@@ -50,7 +50,7 @@ static int print_degrees(const double pose[SAIHKEB_POSE])
     if (refusal)
         return refused(refusal);
     for (uint64_t i = 0; i < counts[0]; i++) {
-        for (int j = 0; j < 6; j++)
+        for (unsigned j = 0; j < 6; j++)
             printf("%10.4f", angles[6 * i + j] / DEGREE);
         puts(flags[i] ? "  least squares" : "");
     }
@@ -93,7 +93,7 @@ static void print_lines(uint64_t place, const uint8_t *block, size_t length)
     printf("block %" PRIu64 " refusal %" PRIu64 " answers %" PRIu64 " evals %" PRIu64 "\n",
            place, refusal, counts[0], counts[1]);
     for (uint64_t i = 0; i < counts[0] && i < ROOM; i++) {
-        for (int j = 0; j < 6; j++)
+        for (unsigned j = 0; j < 6; j++)
             printf("%016" PRIx64 " ", bits(angles[6 * i + j]));
         printf("%d\n", flags[i]);
     }

@@ -55,7 +55,10 @@ fn lines() -> io::Result<()> {
     for (place, block) in input.chunks(512).enumerate() {
         let s = saihkeb::solve_block(block, &mut angles, &mut flags);
         let (refusal, answers, evals) = (s.refusal, s.answers, s.evaluations);
-        writeln!(out, "block {place} refusal {refusal} answers {answers} evals {evals}")?;
+        writeln!(
+            out,
+            "block {place} refusal {refusal} answers {answers} evals {evals}"
+        )?;
         for i in 0..ROOM.min(answers as usize) {
             for &angle in &angles[6 * i..6 * i + 6] {
                 write!(out, "{:016x} ", bits(angle))?;

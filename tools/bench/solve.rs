@@ -86,7 +86,11 @@ impl Lent {
     fn words(&self) -> Vec<u64> {
         let written = ROOM.min(self.answers as usize);
         let mut words = vec![self.refusal, self.answers, self.evaluations];
-        words.extend(self.angles[..6 * written].iter().map(|&x| canonical_bits(x)));
+        words.extend(
+            self.angles[..6 * written]
+                .iter()
+                .map(|&x| canonical_bits(x)),
+        );
         words.extend(self.flags[..written].iter().map(|&flag| flag as u64));
         words
     }
@@ -94,14 +98,28 @@ impl Lent {
 
 #[inline(never)]
 fn port(s: &Sample, lent: &mut Lent) {
-    let given = saihkeb::solve(s.family, s.n, &s.arm, &s.pose, &mut lent.angles, &mut lent.flags);
+    let given = saihkeb::solve(
+        s.family,
+        s.n,
+        &s.arm,
+        &s.pose,
+        &mut lent.angles,
+        &mut lent.flags,
+    );
     lent.refusal = given.refusal;
     lent.answers = given.answers;
     lent.evaluations = given.evaluations;
 }
 
 fn oracle<A: Arith>(s: &Sample, lent: &mut Lent) {
-    let given = solve::solve::<A>(s.family, s.n, &s.arm, &s.pose, &mut lent.angles, &mut lent.flags);
+    let given = solve::solve::<A>(
+        s.family,
+        s.n,
+        &s.arm,
+        &s.pose,
+        &mut lent.angles,
+        &mut lent.flags,
+    );
     lent.refusal = given.refusal as u64;
     lent.answers = given.answers as u64;
     lent.evaluations = given.evaluations;
@@ -168,7 +186,10 @@ fn time(samples: &[Sample], rounds: u64) {
     }
     let each = |x: f64| x / samples.len() as f64;
     let [port, rules, machine] = sums.map(|x| each(x * 1e9));
-    println!("{:.2} {port:.1} {rules:.1} {machine:.1}", each(evaluations as f64));
+    println!(
+        "{:.2} {port:.1} {rules:.1} {machine:.1}",
+        each(evaluations as f64)
+    );
 }
 
 fn main() {
@@ -182,6 +203,9 @@ fn main() {
     if words[0] == "time" {
         return time(&samples, number(4));
     }
-    let (_, side) = SIDES.iter().find(|(name, _)| *name == words[4]).expect("a side");
+    let (_, side) = SIDES
+        .iter()
+        .find(|(name, _)| *name == words[4])
+        .expect("a side");
     println!("{}", bench_run(*side, &samples, &mut Lent::new()));
 }
