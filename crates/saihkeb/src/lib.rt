@@ -1,0 +1,81 @@
+// The library that a controller links: the solve call, the block call and forward kinematics for C
+// and Rust (include/saihkeb.h is its manual). No call asks anything of its numbers or of its lists'
+// lengths: each equals its definition on every input.
+mod pose;
+
+use pose::put_pose;
+use pose::six;
+use solve::Solved;
+ghost use mathlib.Core.Path.{_≡_};
+ghost use lib.Seq.{sets};
+ghost use Rattle.answers.specs.Written.{room, written, flagged};
+ghost use Rattle.solve.specs.Solve.{answers, solve};
+ghost use Rattle.lines.specs.Lines.{solve-block, block-answers};
+ghost use Rattle.saihkeb.specs.Library.{counts-of, forward-refusal, forward-pose};
+
+// The refusal as the result; the number of answers and of evaluations to the counts.
+fn report(s: Solved, counts: &mut [u64; 2]) -> u64
+    ensures { λ r. ⌜ r ≡ s .refusal ⌝ }
+    ensures counts { λ _. ⌜ now (counts .exit) ≡ sets (now (counts .entry)) 0 (counts-of s) ⌝ }
+{
+    counts[0] = s.answers as u64;
+    counts[1] = s.evals;
+    s.refusal
+}
+
+// Document 01's solve call. The refusal is the result; the number of answers in the full list and
+// the number of evaluations go to `counts`.
+#[no_mangle]
+pub extern "C" fn saihkeb_solve(
+    family: u64,
+    n: u64,
+    arm: &[f64],
+    pose: &[f64],
+    angles: &mut [f64],
+    flags: &mut [u8],
+    counts: &mut [u64; 2],
+) -> u64
+    ensures result { λ r. ⌜ r ≡ solve family n (now (arm .entry)) (now (pose .entry)) (room (now (angles .entry)) (now (flags .entry))) .refusal ⌝ }
+    ensures angles { λ _. ⌜ now (angles .exit) ≡ written (answers family n (now (arm .entry)) (now (pose .entry))) (now (angles .entry)) (now (flags .entry)) ⌝ }
+    ensures flags { λ _. ⌜ now (flags .exit) ≡ flagged (answers family n (now (arm .entry)) (now (pose .entry))) (now (angles .entry)) (now (flags .entry)) ⌝ }
+    ensures counts { λ _. ⌜ now (counts .exit) ≡ sets (now (counts .entry)) 0 (counts-of (solve family n (now (arm .entry)) (now (pose .entry)) (room (now (angles .entry)) (now (flags .entry))))) ⌝ }
+{
+    report(solve::solve(family, n, arm, pose, angles, flags), counts)
+}
+
+// The same for one block of 512 bytes, which is judged first: refusals 1 to 3.
+#[no_mangle]
+pub extern "C" fn saihkeb_solve_block(
+    block: &[u8],
+    angles: &mut [f64],
+    flags: &mut [u8],
+    counts: &mut [u64; 2],
+) -> u64
+    ensures result { λ r. ⌜ r ≡ solve-block (now (block .entry)) (room (now (angles .entry)) (now (flags .entry))) .refusal ⌝ }
+    ensures angles { λ _. ⌜ now (angles .exit) ≡ written (block-answers (now (block .entry))) (now (angles .entry)) (now (flags .entry)) ⌝ }
+    ensures flags { λ _. ⌜ now (flags .exit) ≡ flagged (block-answers (now (block .entry))) (now (angles .entry)) (now (flags .entry)) ⌝ }
+    ensures counts { λ _. ⌜ now (counts .exit) ≡ sets (now (counts .entry)) 0 (counts-of (solve-block (now (block .entry)) (room (now (angles .entry)) (now (flags .entry))))) ⌝ }
+{
+    report(lines::solve_block(block, angles, flags), counts)
+}
+
+// The pose of six angles. A list of another length than 39, 6 or 12 is refused, and the pose's list
+// is then left as it came.
+#[no_mangle]
+pub extern "C" fn saihkeb_forward_kinematics(arm: &[f64], angles: &[f64], pose: &mut [f64]) -> u64
+    ensures result { λ r. ⌜ r ≡ forward-refusal (now (arm .entry)) (now (angles .entry)) (now (pose .entry)) ⌝ }
+    ensures pose { λ _. ⌜ now (pose .exit) ≡ forward-pose (now (arm .entry)) (now (angles .entry)) (now (pose .entry)) ⌝ }
+{
+    if arm.len() != 39 {
+        return 5;
+    }
+    if pose.len() != 12 {
+        return 6;
+    }
+    if angles.len() != 6 {
+        return 18;
+    }
+    let kin = kinematics::from_numbers(arm);
+    put_pose(pose, kinematics::forward_kinematics(kin, six(angles)));
+    0
+}

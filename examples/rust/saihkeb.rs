@@ -1,0 +1,119 @@
+//! A safe wrapper over libsaihkeb.a. The contracts ask nothing of the numbers or of the lists'
+//! lengths (every function is defined on every input), so there is nothing to test before a call:
+//! that a list is as long as its length says, and overlaps no other, is what Rust's slices are. The
+//! refusals become errors.
+
+mod library {
+    extern "C" {
+        pub fn saihkeb_solve(
+            family: u64,
+            n: u64,
+            arm: *const f64,
+            arm_len: usize,
+            pose: *const f64,
+            pose_len: usize,
+            angles: *mut f64,
+            angles_len: usize,
+            flags: *mut u8,
+            flags_len: usize,
+            counts: *mut [u64; 2],
+        ) -> u64;
+        pub fn saihkeb_solve_block(
+            block: *const u8,
+            block_len: usize,
+            angles: *mut f64,
+            angles_len: usize,
+            flags: *mut u8,
+            flags_len: usize,
+            counts: *mut [u64; 2],
+        ) -> u64;
+        pub fn saihkeb_forward_kinematics(
+            arm: *const f64,
+            arm_len: usize,
+            angles: *const f64,
+            angles_len: usize,
+            pose: *mut f64,
+            pose_len: usize,
+        ) -> u64;
+    }
+}
+
+/// What a solve gives beside the two lists. Refusal 0 is none.
+#[derive(Debug, Clone, Copy, PartialEq, Eq)]
+pub struct Solved {
+    pub refusal: u64,
+    /// The answers of the full list, also of those that did not fit.
+    pub answers: u64,
+    /// The evaluations of family 6's search.
+    pub evaluations: u64,
+}
+
+/// The solve call of include/saihkeb.h.
+pub fn solve(
+    family: u64,
+    n: u64,
+    arm: &[f64],
+    pose: &[f64],
+    angles: &mut [f64],
+    flags: &mut [u8],
+) -> Solved {
+    let mut counts = [0; 2];
+    let refusal = unsafe {
+        library::saihkeb_solve(
+            family,
+            n,
+            arm.as_ptr(),
+            arm.len(),
+            pose.as_ptr(),
+            pose.len(),
+            angles.as_mut_ptr(),
+            angles.len(),
+            flags.as_mut_ptr(),
+            flags.len(),
+            &mut counts,
+        )
+    };
+    solved(refusal, counts)
+}
+
+/// The block call.
+pub fn solve_block(block: &[u8], angles: &mut [f64], flags: &mut [u8]) -> Solved {
+    let mut counts = [0; 2];
+    let refusal = unsafe {
+        library::saihkeb_solve_block(
+            block.as_ptr(),
+            block.len(),
+            angles.as_mut_ptr(),
+            angles.len(),
+            flags.as_mut_ptr(),
+            flags.len(),
+            &mut counts,
+        )
+    };
+    solved(refusal, counts)
+}
+
+fn solved(refusal: u64, [answers, evaluations]: [u64; 2]) -> Solved {
+    Solved {
+        refusal,
+        answers,
+        evaluations,
+    }
+}
+
+/// The pose of six angles. With arrays no length can be refused.
+pub fn forward_kinematics(arm: &[f64; 39], angles: &[f64; 6]) -> [f64; 12] {
+    let mut pose = [0.0; 12];
+    let refusal = unsafe {
+        library::saihkeb_forward_kinematics(
+            arm.as_ptr(),
+            arm.len(),
+            angles.as_ptr(),
+            angles.len(),
+            pose.as_mut_ptr(),
+            pose.len(),
+        )
+    };
+    assert_eq!(refusal, 0, "lists of 39, 6 and 12");
+    pose
+}

@@ -1,0 +1,211 @@
+//! The solve call of the library beside the reference program's, on the same poses in one run.
+//! `rules` is the reference program over document 01's arithmetic, `machine` the same with the
+//! standard library's sine, arctangent and cube root. All three judge their input and write to lent
+//! lists.
+//!
+//! `solve time FAMILY N POSES ROUNDS` prints: evaluations a solve, and for port, rules and machine
+//! the nanoseconds a solve: each few poses take the least of all rounds. It stops where port and rules differ in a bit.
+//! `solve count FAMILY N POSES SIDE` solves each pose once with that side, for callgrind.
+//!
+//! The poses are the first of `oracle generate reachable FAMILY 1 POSES N`.
+
+#[allow(dead_code)]
+#[path = "../../oracle/src/arith.rs"]
+mod arith;
+#[allow(dead_code)]
+#[path = "../../oracle/src/arms.rs"]
+mod arms;
+#[allow(dead_code)]
+#[path = "../../oracle/src/block.rs"]
+mod block;
+#[allow(dead_code)]
+#[path = "../../oracle/src/complex.rs"]
+mod complex;
+#[allow(dead_code)]
+#[path = "../../oracle/src/generate.rs"]
+mod generate;
+#[allow(dead_code)]
+#[path = "../../oracle/src/inverse_kinematics/mod.rs"]
+mod inverse_kinematics;
+#[allow(dead_code)]
+#[path = "../../oracle/src/linalg.rs"]
+mod linalg;
+#[allow(dead_code)]
+#[path = "../../oracle/src/nearest.rs"]
+mod nearest;
+#[allow(dead_code)]
+#[path = "../../oracle/src/odd.rs"]
+mod odd;
+#[allow(dead_code)]
+#[path = "../../oracle/src/rng.rs"]
+mod rng;
+#[allow(dead_code)]
+#[path = "../../examples/rust/saihkeb.rs"]
+mod saihkeb;
+#[allow(dead_code)]
+#[path = "../../oracle/src/solutionset.rs"]
+mod solutionset;
+#[allow(dead_code)]
+#[path = "../../oracle/src/solve.rs"]
+mod solve;
+#[allow(dead_code)]
+#[path = "../../oracle/src/subproblems/mod.rs"]
+mod subproblems;
+
+use arith::{Arith, Machine, Rules};
+use block::canonical_bits;
+use generate::{sample, Kind, Sample};
+use std::hint::black_box;
+use std::time::Instant;
+
+const SEED: u64 = 1;
+/// Answers that there is room for.
+const ROOM: usize = 1024;
+
+/// The lent lists, and what a solve gave beside them.
+struct Lent {
+    angles: Vec<f64>,
+    flags: Vec<u8>,
+    refusal: u64,
+    answers: u64,
+    evaluations: u64,
+}
+
+impl Lent {
+    fn new() -> Self {
+        Lent {
+            angles: vec![0.0; 6 * ROOM],
+            flags: vec![0; ROOM],
+            refusal: 0,
+            answers: 0,
+            evaluations: 0,
+        }
+    }
+
+    /// Everything in one list; NaNs are alike.
+    fn words(&self) -> Vec<u64> {
+        let written = ROOM.min(self.answers as usize);
+        let mut words = vec![self.refusal, self.answers, self.evaluations];
+        words.extend(
+            self.angles[..6 * written]
+                .iter()
+                .map(|&x| canonical_bits(x)),
+        );
+        words.extend(self.flags[..written].iter().map(|&flag| flag as u64));
+        words
+    }
+}
+
+#[inline(never)]
+fn port(s: &Sample, lent: &mut Lent) {
+    let given = saihkeb::solve(
+        s.family,
+        s.n,
+        &s.arm,
+        &s.pose,
+        &mut lent.angles,
+        &mut lent.flags,
+    );
+    lent.refusal = given.refusal;
+    lent.answers = given.answers;
+    lent.evaluations = given.evaluations;
+}
+
+fn oracle<A: Arith>(s: &Sample, lent: &mut Lent) {
+    let given = solve::solve::<A>(
+        s.family,
+        s.n,
+        &s.arm,
+        &s.pose,
+        &mut lent.angles,
+        &mut lent.flags,
+    );
+    lent.refusal = given.refusal as u64;
+    lent.answers = given.answers as u64;
+    lent.evaluations = given.evaluations;
+}
+
+#[inline(never)]
+fn rules(s: &Sample, lent: &mut Lent) {
+    oracle::<Rules>(s, lent);
+}
+
+#[inline(never)]
+fn machine(s: &Sample, lent: &mut Lent) {
+    oracle::<Machine>(s, lent);
+}
+
+type Side = fn(&Sample, &mut Lent);
+
+const SIDES: [(&str, Side); 3] = [("port", port), ("rules", rules), ("machine", machine)];
+
+/// Kept out of line, so that a profiler can count from its start to its end.
+#[inline(never)]
+fn bench_run(side: Side, samples: &[Sample], lent: &mut Lent) -> u64 {
+    let mut evaluations = 0;
+    for s in samples {
+        side(s, lent);
+        evaluations += lent.evaluations;
+    }
+    evaluations
+}
+
+/// How many poses are timed at once: about as long as a clock can tell, and short enough that the
+/// machine's other work seldom falls into every round.
+fn together(family: u64) -> usize {
+    if family == 6 {
+        1
+    } else {
+        20
+    }
+}
+
+fn time(samples: &[Sample], rounds: u64) {
+    let (mut a, mut b) = (Lent::new(), Lent::new());
+    let mut evaluations = 0;
+    for s in samples {
+        port(s, &mut a);
+        rules(s, &mut b);
+        assert!(a.words() == b.words(), "port and rules differ");
+        evaluations += a.evaluations;
+    }
+    let mut sums = [0.0; SIDES.len()];
+    for some in samples.chunks(together(samples[0].family)) {
+        // All sides in turn in every round, and the least time of each.
+        let mut best = [f64::INFINITY; SIDES.len()];
+        for _ in 0..rounds {
+            for (slot, (_, side)) in best.iter_mut().zip(SIDES) {
+                let start = Instant::now();
+                black_box(bench_run(side, some, &mut a));
+                *slot = slot.min(start.elapsed().as_secs_f64());
+            }
+        }
+        for (sum, least) in sums.iter_mut().zip(best) {
+            *sum += least;
+        }
+    }
+    let each = |x: f64| x / samples.len() as f64;
+    let [port, rules, machine] = sums.map(|x| each(x * 1e9));
+    println!(
+        "{:.2} {port:.1} {rules:.1} {machine:.1}",
+        each(evaluations as f64)
+    );
+}
+
+fn main() {
+    let words: Vec<String> = std::env::args().skip(1).collect();
+    let number = |i: usize| -> u64 { words[i].parse().expect("a number") };
+    let (family, n, poses) = (number(1), number(2), number(3));
+    let samples: Vec<Sample> = (0..poses)
+        .map(|place| sample(Kind::Reachable, family, SEED, place, (n > 0).then_some(n)))
+        .collect();
+    assert!(samples.iter().all(|s| s.n == n), "n");
+    if words[0] == "time" {
+        return time(&samples, number(4));
+    }
+    let (_, side) = SIDES
+        .iter()
+        .find(|(name, _)| *name == words[4])
+        .expect("a side");
+    println!("{}", bench_run(*side, &samples, &mut Lent::new()));
+}
