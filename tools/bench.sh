@@ -34,15 +34,13 @@ count() {
 csv=target/bench/bench.csv
 echo "family,n,side,poses_counted,instructions,evaluations,poses_timed,evaluations_timed,ns" >$csv
 measure() {
-    local family=$1 n=$2 poses=$3 turns=$4 side total made
-    read -r evaluations port rules machine < <($bench time "$family" "$n" "$timed" "$turns")
-    declare -A ns=([port]=$port [rules]=$rules [machine]=$machine)
-    for side in port rules machine; do
-        read -r total made < <(count "$family" "$n" "$poses" $side)
-        awk -v OFS=, -v f="$family" -v n="$n" -v s=$side -v p="$poses" -v i="$total" -v e="$made" \
-            -v t="$timed" -v te="$evaluations" -v ns="${ns[$side]}" \
+    local family=$1 n=$2 poses=$3 turns=$4 side evaluations ns total made
+    while read -r side evaluations ns; do
+        read -r total made < <(count "$family" "$n" "$poses" "$side")
+        awk -v f="$family" -v n="$n" -v s="$side" -v p="$poses" -v i="$total" -v e="$made" \
+            -v t="$timed" -v te="$evaluations" -v ns="$ns" \
             'BEGIN { printf "%d,%d,%s,%d,%.1f,%.2f,%d,%.2f,%.1f\n", f, n, s, p, i / p, e / p, t, te, ns }' >>$csv
-    done
+    done < <($bench time "$family" "$n" "$timed" "$turns")
 }
 for family in 1 2 3 4 5; do
     measure $family 0 1000 "$rounds"

@@ -40,14 +40,17 @@ def table(groups):
         cells += [f"{x:,.0f}" for x in time] + [f"{time[0] / time[2]:.2f}"]
         print("| " + " | ".join(cells) + " |")
     print()
-    print("| family 6, n | evaluations a solve | instructions an evaluation: port | rules | machine | port / machine |")
-    print("|---|---|---|---|---|---|")
+    print("| family 6, n | evaluations a solve | instructions an evaluation: port | rules | machine | port / machine | ns: port | rules | machine | port / machine |")
+    print("|---|---|---|---|---|---|---|---|---|---|")
     for (family, n), sides in groups.items():
         if family != 6:
             continue
-        each = [number(sides[s], "instructions") / number(sides[s], "evaluations") for s in SIDES]
-        cells = [str(n), f"{number(sides['port'], 'evaluations'):,.0f}"] + [f"{x:,.0f}" for x in each]
-        print("| " + " | ".join(cells + [f"{each[0] / each[2]:.2f}"]) + " |")
+        count = [number(sides[s], "instructions") / number(sides[s], "evaluations") for s in SIDES]
+        time = [number(sides[s], "ns") / number(sides[s], "evaluations_timed") for s in SIDES]
+        cells = [str(n), f"{number(sides['port'], 'evaluations'):,.0f}"]
+        for three in (count, time):
+            cells += [f"{x:,.0f}" for x in three] + [f"{three[0] / three[2]:.2f}"]
+        print("| " + " | ".join(cells) + " |")
 
 
 def text(x, y, words, anchor="middle", more=""):
@@ -62,7 +65,7 @@ def plot(groups, path):
     """Millions of instructions a solve against n: straight axes, both from 0."""
     points = {s: [(n, number(sides[s], "instructions") / 1e6) for (f, n), sides in groups.items() if f == 6] for s in SIDES}
     most_n = 400
-    step = 5
+    step = 2
     top = step
     while top < max(y for side in points.values() for _, y in side):
         top += step

@@ -162,34 +162,32 @@ fn together(family: u64) -> usize {
 
 fn time(samples: &[Sample], rounds: u64) {
     let (mut a, mut b) = (Lent::new(), Lent::new());
-    let mut evaluations = 0;
     for s in samples {
         port(s, &mut a);
         rules(s, &mut b);
         assert!(a.words() == b.words(), "port and rules differ");
-        evaluations += a.evaluations;
     }
-    let mut sums = [0.0; SIDES.len()];
+    let (mut sums, mut evaluations) = ([0.0; SIDES.len()], [0; SIDES.len()]);
     for some in samples.chunks(together(samples[0].family)) {
         // All sides in turn in every round, and the least time of each.
-        let mut best = [f64::INFINITY; SIDES.len()];
+        let (mut least, mut made) = ([f64::INFINITY; SIDES.len()], [0; SIDES.len()]);
         for _ in 0..rounds {
-            for (slot, (_, side)) in best.iter_mut().zip(SIDES) {
+            for (i, (_, side)) in SIDES.iter().enumerate() {
                 let start = Instant::now();
-                black_box(bench_run(side, some, &mut a));
-                *slot = slot.min(start.elapsed().as_secs_f64());
+                made[i] = black_box(bench_run(*side, some, &mut a));
+                least[i] = least[i].min(start.elapsed().as_secs_f64());
             }
         }
-        for (sum, least) in sums.iter_mut().zip(best) {
-            *sum += least;
+        for i in 0..SIDES.len() {
+            sums[i] += least[i];
+            evaluations[i] += made[i];
         }
     }
     let each = |x: f64| x / samples.len() as f64;
-    let [port, rules, machine] = sums.map(|x| each(x * 1e9));
-    println!(
-        "{:.2} {port:.1} {rules:.1} {machine:.1}",
-        each(evaluations as f64)
-    );
+    for (i, (name, _)) in SIDES.iter().enumerate() {
+        let (made, ns) = (each(evaluations[i] as f64), each(sums[i] * 1e9));
+        println!("{name} {made:.2} {ns:.1}");
+    }
 }
 
 fn main() {
