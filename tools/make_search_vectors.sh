@@ -10,9 +10,11 @@ cargo build --release --offline --quiet --manifest-path oracle/Cargo.toml
 oracle=${CARGO_TARGET_DIR:-oracle/target}/release/oracle
 to=crates/search_vectors
 {
-    for n in 1 2 7 50 200 400; do
-        for kind in reachable random hostile; do
-            "$oracle" searches "$kind" "$seed" 15 "$n"
+    # n and the searches of each kind. Of the hostile ones at n = 7 one has an answer whose q3 is -PI,
+    # where the two wrap_to_pi differ; the bent ones have flags that others lack.
+    for pair in 1:45 2:45 7:45 50:12 200:12 400:12; do
+        for kind in reachable random hostile bent; do
+            "$oracle" searches "$kind" "$seed" "${pair#*:}" "${pair%:*}"
         done
     done
     # The last of these has 1,432 pairs, and no other is so long.
