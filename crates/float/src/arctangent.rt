@@ -1,11 +1,13 @@
 // atan2, as document 01 fixes it.
-use crate::number::FRAC_PI_2;
-use crate::number::FRAC_PI_4;
-use crate::number::PI;
-use crate::number::abs;
-use crate::number::infinity;
-use crate::number::sign_bit;
+use number::FRAC_PI_2;
+use number::FRAC_PI_4;
+use number::PI;
+use number::abs;
+use number::infinity;
 ghost use mathlib.Core.Path.{_≡_};
+ghost use mathlib.Core.Bool.{false};
+ghost use lib.Ieee.{isNan};
+ghost use Rattle.float.specs.Number.{sign-bit};
 ghost use Rattle.float.specs.Arctangent.{ratio, atan-sum, atan, first-quadrant, atan2};
 
 const A1: f64 = -1.0 / 3.0;
@@ -47,6 +49,14 @@ const A18: f64 = 1.0 / 37.0;
 const A19: f64 = -1.0 / 39.0;
 
 const A20: f64 = 1.0 / 41.0;
+
+// Whether the sign bit of a number is set. That of a NaN is not asked: its bits are open.
+fn sign_bit(x: f64) -> bool
+    requires { ⌜ isNan x ≡ false ⌝ }
+    ensures { λ r. ⌜ r ≡ sign-bit x ⌝ }
+{
+    f64::to_bits(x) >= 0x8000_0000_0000_0000
+}
 
 // The smaller of two sizes over the larger: 0 if both are zero, 1 if both are infinite.
 fn ratio(smaller: f64, larger: f64) -> f64

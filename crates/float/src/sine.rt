@@ -1,8 +1,8 @@
 // The sine and the cosine: reduction, polynomial and choice by quadrant.
-use crate::number::FRAC_PI_2;
-use crate::number::PI;
-use crate::number::TAU;
-use crate::turn::rem_tau;
+use number::FRAC_PI_2;
+use number::PI;
+use number::TAU;
+use number::rem_tau;
 ghost use mathlib.Core.Path.{_≡_};
 ghost use Rattle.float.specs.Turn.{rem-tau};
 ghost use Rattle.float.specs.Sine.{sin-sum, cos-sum, reduce, sin, cos, sin-cos};

@@ -13,7 +13,7 @@ use lib.ListN.{length, getD, set, replicate, length-map}
 use lib.Seq.{sets, getD-set-same, getD-set-other, set-out}
 use Rattle.float.specs.Num.{_⊕_, _⊖_, _⊗_, _⊘_, infinity}
 use Rattle.float.specs.Number.{is-finite}
-use Rattle.float.specs.Root.{sqrt, sqrtAt}
+use Rattle.root.specs.Root.{sqrt, sqrtAt}
 use Rattle.float.specs.Sine.{sin}
 use Rattle.linear.specs.Vector.{norm, _-ᵛ_}
 use Rattle.linear.specs.Matrix.{Matrix, part, row, apply, transpose, rodrigues, rot-unit, rot}

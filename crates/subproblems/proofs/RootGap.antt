@@ -17,11 +17,11 @@ use lib.Ieee.Positive.{positive}
 use borrow.Author.Tests.{ltb-true, ltb-false, le-ltb}
 use Rattle.float.specs.Num.{_⊖_, nought, one}
 use Rattle.float.specs.Number.{abs}
-use Rattle.float.specs.Root.{Root, sqrt, roundedSqrt, wholeSqrt, sticky, scaled}
+use Rattle.root.specs.Root.{Root, sqrt, roundedSqrt, wholeSqrt, sticky, scaled}
 use Rattle.float.specs.Size.{Unsigned}
-use Rattle.float.proofs.Decode.{opened, neg-round, is-positive}
-use Rattle.float.proofs.Whole.{twice-sqrt, square-root-of}
-use Rattle.float.proofs.Squares.{square-suc, least, most}
+use Rattle.root.proofs.Decode.{opened, neg-round, is-positive}
+use Rattle.root.proofs.Whole.{twice-sqrt, square-root-of}
+use Rattle.root.proofs.Squares.{square-suc, least, most}
 use Rattle.subproblems.specs.Norms.{below-tolerance, above-tolerance, Near, Far, two^-42, two^-21, two^-17, two^-7, two^20, two^60}
 use Rattle.subproblems.specs.Subproblem1 as first
 use Rattle.subproblems.proofs.Fractions.{whole-low, whole-high, up-to, away}

@@ -1,0 +1,12 @@
+-- The quotient computes.
+use mathlib.Core.Path.{refl}
+use lib.Ieee.{div, ofBits}
+use Rattle.number.proofs.infinity.Statement.{statement}
+use Rattle.number.proofs.infinity.Tie as tie
+
+returns : tie.Need-returns
+unfolding div ofBits
+returns c = refl
+
+pub infinity-spec : {M : Type 1} → statement M
+infinity-spec = tie.close (tie.spec returns)
