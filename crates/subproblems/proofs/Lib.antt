@@ -1,3 +1,1 @@
 pub mod Commute
-pub mod Fractions
-pub mod RootGap

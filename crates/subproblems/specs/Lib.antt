@@ -1,5 +1,4 @@
 pub mod Columns
-pub mod Norms
 pub mod Subproblem1
 pub mod Subproblem2
 pub mod Subproblem3

@@ -1,12 +1,14 @@
 -- subproblem1 of subproblems/mod.rs: "Solves for `theta` where `rot(k, theta) * p1 = p2` if possible. If not, minimizes `|| rot(k, theta) * p1 - p2 ||`.
 -- Also returns a boolean of whether or not `theta` is a least-squares solution." The angle and the flag are apart, and the flag's 1e-6 is a parameter.
 use mathlib.Core.Bool.{Bool, _||_}
-use lib.Ieee.{Float, binary64, ofBits, lt}
+use lib.Ieee.{Float, lt}
 use Rattle.float.specs.Num.{_⊖_}
 use Rattle.float.specs.Number.{abs}
 use Rattle.float.specs.Arctangent.{atan2}
 use Rattle.linear.specs.Vector.{dot, norm}
 use Rattle.linear.specs.declared.Vector3.{Vector3}
+-- 1e-6
+pub use Rattle.norms.specs.Norms.{tolerance}
 use Rattle.subproblems.specs.Columns.{columns}
 use Rattle.subproblems.specs.declared.Solved1.{Solved1}
 
@@ -27,10 +29,6 @@ unfoldable pub subproblem1-within : Vector3 → Vector3 → Vector3 → Float �
 unfolding subproblem1-theta subproblem1-is-ls
 subproblem1-within p1 p2 k tolerance =
     record { theta = subproblem1-theta p1 p2 k; «is_ls» = subproblem1-is-ls p1 p2 k tolerance }
-
--- 1e-6
-abbrev pub tolerance : Float
-tolerance = ofBits binary64 0x3eb0_c6f7_a0b5_ed8d
 
 unfoldable pub subproblem1 : Vector3 → Vector3 → Vector3 → Solved1
 unfolding subproblem1-within

@@ -1,8 +1,8 @@
 // Subproblem 1: the angle, its flag, and both.
 use crate::Solved1;
-use crate::norms::norms_differ;
 use crate::shared::columns;
 use linear::Vector3;
+use norms::norms_differ;
 ghost use mathlib.Core.Path.{_≡_};
 ghost use Rattle.subproblems.specs.Subproblem1.{subproblem1-theta, subproblem1-is-ls, subproblem1-within, subproblem1};
 

@@ -4,10 +4,10 @@ use mathlib.Core.Bool.{Bool, true, false, false≢true}
 use lib.Ieee.{Float, lt}
 use Rattle.float.specs.Num.{_⊖_, nought, one}
 use Rattle.float.specs.Number.{abs}
-use Rattle.subproblems.specs.Norms.{Far, two^-17, two^-7, two^20, two^60}
-use Rattle.subproblems.proofs.RootGap.{far-small, far-large}
-use Rattle.subproblems.proofs.norms.far.Statement.{statement}
-use Rattle.subproblems.proofs.norms.far.Tie as tie
+use Rattle.norms.specs.Norms.{Far, two^-17, two^-7, two^20, two^60}
+use Rattle.norms.proofs.RootGap.{far-small, far-large}
+use Rattle.norms.proofs.far.Statement.{statement}
+use Rattle.norms.proofs.far.Tie as tie
 
 module _ (a b : Float) (za : lt nought a ≡ true) (zb : lt nought b ≡ true) (v : lt b two^60 ≡ true) {d : Float} (e : d ≡ abs (a ⊖ b)) where
   small : lt a one ≡ true → lt two^-17 d ≡ true → Far a b

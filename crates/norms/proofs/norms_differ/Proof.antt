@@ -6,10 +6,10 @@ use borrow.Author.Needs.{needs}
 use Rattle.float.specs.Num.{_⊖_}
 use Rattle.float.specs.Number.{abs}
 use Rattle.float.specs.Root.{sqrt}
-use Rattle.subproblems.specs.Norms.{below-tolerance, Near}
-use Rattle.subproblems.proofs.RootGap.{near-not-above}
-use Rattle.subproblems.proofs.norms.norms_differ.Statement.{statement}
-use Rattle.subproblems.proofs.norms.norms_differ.Tie as tie
+use Rattle.norms.specs.Norms.{below-tolerance, Near}
+use Rattle.norms.proofs.RootGap.{near-not-above}
+use Rattle.norms.proofs.norms_differ.Statement.{statement}
+use Rattle.norms.proofs.norms_differ.Tie as tie
 
 close : (a b tolerance : Float) {r : Bool} → (r ≡ true → Near a b) → r ≡ true → le below-tolerance tolerance ≡ true → false ≡ lt tolerance (abs (sqrt a ⊖ sqrt b))
 close a b tolerance h t u = sym (near-not-above (abs (sqrt a ⊖ sqrt b)) (h t) tolerance u)

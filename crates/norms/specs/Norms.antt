@@ -6,6 +6,10 @@ use Rattle.float.specs.Num.{_⊖_}
 use Rattle.float.specs.Number.{abs}
 use Rattle.float.specs.Root.{sqrt}
 
+-- 1e-6, which subproblem1's flag and subproblem5's distance are held to
+abbrev pub tolerance : Float
+tolerance = ofBits binary64 0x3eb0_c6f7_a0b5_ed8d
+
 -- 2^-20, which is below 1e-6, and 3 × 2^-21, which is above it
 abbrev pub below-tolerance : Float
 below-tolerance = ofBits binary64 0x3eb0_0000_0000_0000

@@ -6,8 +6,7 @@ ghost use lib.Ieee.{lt};
 ghost use Rattle.float.specs.Num.{_⊖_};
 ghost use Rattle.float.specs.Number.{abs};
 ghost use Rattle.float.specs.Root.{sqrt};
-ghost use Rattle.subproblems.specs.Norms.{Near, Far};
-ghost use Rattle.subproblems.specs.Subproblem1.{tolerance};
+ghost use Rattle.norms.specs.Norms.{Near, Far, tolerance};
 
 // 2^-42, 2^-21, 2^-20, 2^-17, 2^-7, 2^20 and 2^60.
 const TWO_M42: f64 = 2.2737367544323206e-13;

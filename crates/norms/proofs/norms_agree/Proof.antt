@@ -5,11 +5,10 @@ use lib.Ieee.{Float, lt}
 use Rattle.float.specs.Num.{_⊖_}
 use Rattle.float.specs.Number.{abs}
 use Rattle.float.specs.Root.{sqrt}
-use Rattle.subproblems.specs.Norms.{Near, Far}
-use Rattle.subproblems.specs.Subproblem1.{tolerance}
-use Rattle.subproblems.proofs.RootGap.{near-below, far-not-below}
-use Rattle.subproblems.proofs.norms.norms_agree.Statement.{statement}
-use Rattle.subproblems.proofs.norms.norms_agree.Tie as tie
+use Rattle.norms.specs.Norms.{Near, Far, tolerance}
+use Rattle.norms.proofs.RootGap.{near-below, far-not-below}
+use Rattle.norms.proofs.norms_agree.Statement.{statement}
+use Rattle.norms.proofs.norms_agree.Tie as tie
 
 module _ (a b : Float) where
   close : {r : Bool} → (r ≡ true → Near a b) → r ≡ true → true ≡ lt (abs (sqrt a ⊖ sqrt b)) tolerance

@@ -4,10 +4,10 @@ use mathlib.Core.Bool.{Bool, true, false, false≢true}
 use lib.Ieee.{Float, lt}
 use Rattle.float.specs.Num.{_⊖_, nought, one}
 use Rattle.float.specs.Number.{abs}
-use Rattle.subproblems.specs.Norms.{Near, two^-42, two^-21, two^60}
-use Rattle.subproblems.proofs.RootGap.{near-small, near-large}
-use Rattle.subproblems.proofs.norms.near.Statement.{statement}
-use Rattle.subproblems.proofs.norms.near.Tie as tie
+use Rattle.norms.specs.Norms.{Near, two^-42, two^-21, two^60}
+use Rattle.norms.proofs.RootGap.{near-small, near-large}
+use Rattle.norms.proofs.near.Statement.{statement}
+use Rattle.norms.proofs.near.Tie as tie
 
 module _ (a b : Float) (za : lt nought a ≡ true) (zb : lt nought b ≡ true) {d : Float} (e : d ≡ abs (a ⊖ b)) where
   small : lt a one ≡ true → lt d two^-42 ≡ true → Near a b

@@ -22,9 +22,9 @@ use Rattle.float.specs.Size.{Unsigned}
 use Rattle.root.proofs.Decode.{opened, neg-round, is-positive}
 use Rattle.root.proofs.Whole.{twice-sqrt, square-root-of}
 use Rattle.root.proofs.Squares.{square-suc, least, most}
-use Rattle.subproblems.specs.Norms.{below-tolerance, above-tolerance, Near, Far, two^-42, two^-21, two^-17, two^-7, two^20, two^60}
-use Rattle.subproblems.specs.Subproblem1 as first
-use Rattle.subproblems.proofs.Fractions.{whole-low, whole-high, up-to, away}
+use Rattle.norms.specs.Norms.{below-tolerance, above-tolerance, Near, Far, two^-42, two^-21, two^-17, two^-7, two^20, two^60}
+use Rattle.norms.specs.Norms as norms
+use Rattle.norms.proofs.Fractions.{whole-low, whole-high, up-to, away}
 use Rattle.triple_sort.proofs.NumberOrder.{by-test, lt-one-way, lt-through}
 
 -- ---- comparisons
@@ -542,13 +542,13 @@ module _ (d : Float) (h : le d below-tolerance ≡ true) where
       lt-through d below-tolerance tolerance (le-number d below-tolerance h) (unfold isNan ofBits in refl) not-over
       (le-not-lt below-tolerance tolerance (as-test (le below-tolerance tolerance) t))
 
-  pub near-below : lt d first.tolerance ≡ true
+  pub near-below : lt d norms.tolerance ≡ true
   near-below =
-      by-test (lt d first.tolerance) (λ t. t)
+      by-test (lt d norms.tolerance) (λ t. t)
       (λ t.
-      let over = lt-through first.tolerance d below-tolerance (unfold isNan ofBits in refl) (le-number d below-tolerance h) t not-over in
-      let is : lt below-tolerance first.tolerance ≡ true = unfold lt ofBits in refl in
+      let over = lt-through norms.tolerance d below-tolerance (unfold isNan ofBits in refl) (le-number d below-tolerance h) t not-over in
+      let is : lt below-tolerance norms.tolerance ≡ true = unfold lt ofBits in refl in
       absurd (true≢false (sym is ∙ over)))
 
-pub far-not-below : (d : Float) → lt d above-tolerance ≡ false → lt d first.tolerance ≡ false
-far-not-below d h = lt-through first.tolerance above-tolerance d (unfold isNan ofBits in refl) (unfold isNan ofBits in refl) (unfold lt ofBits in refl) h
+pub far-not-below : (d : Float) → lt d above-tolerance ≡ false → lt d norms.tolerance ≡ false
+far-not-below d h = lt-through norms.tolerance above-tolerance d (unfold isNan ofBits in refl) (unfold isNan ofBits in refl) (unfold lt ofBits in refl) h
