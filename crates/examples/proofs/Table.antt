@@ -21,7 +21,7 @@ use Rattle.linear.specs.Vector.{norm}
 use Rattle.solutionset.specs.declared.SolutionSet2.the-variants.{One, Two}
 use Rattle.subproblems.specs.Subproblem1.{subproblem1}
 use Rattle.subproblems.specs.Subproblem4.{subproblem4}
-use Rattle.solve.specs.Judge.{judge}
+use Rattle.refusals.specs.Judge.{judge}
 use Rattle.examples.specs.KnownResults.{KnownResults, Judged, num, x-axis, y-axis, z-axis, vector-2, vector-3, vector-5, matrix-2, quadratic}
 
 self-convolve-2 : vec-self-convolve-2 (vector-2 1 2) ≡ vector-3 1 4 4

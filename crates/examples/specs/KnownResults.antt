@@ -24,7 +24,7 @@ use Rattle.subproblems.specs.Subproblem1.{subproblem1}
 use Rattle.subproblems.specs.Subproblem4.{subproblem4}
 use Rattle.subproblems.specs.declared.Solved1.{Solved1}
 use Rattle.subproblems.specs.declared.Solved2.{Solved2}
-use Rattle.solve.specs.Judge.{all-finite, judge}
+use Rattle.refusals.specs.Judge.{all-finite, judge}
 
 -- ---- short names for the numbers of the table
 abbrev pub num : ℕ → Float

@@ -5,7 +5,7 @@ use mathlib.Core.List.{List}
 use native.Mathlib.Omega.{arith}
 use lib.ListN.{length, take, drop}
 use lib.Seq.{sets-eq, take-at}
-use Rattle.lines.specs.Text.{Put}
+use Rattle.text.specs.Text.{Put}
 use Rattle.lines.specs.Lines.{lines}
 
 pub shown : (bytes : List ℕ) (place : ℕ) (out₀ out : List ℕ) (r : ℕ) → length out₀ ≡ 106608 → Put (lines bytes place) 0 out₀ out r → r ≤ 106608 → take r out ≡ lines bytes place

@@ -1,5 +1,2 @@
-pub mod Laws
 pub mod Printed
 pub mod AtStart
-pub mod Value
-pub mod Known

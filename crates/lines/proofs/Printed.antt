@@ -15,10 +15,10 @@ use Rattle.answers.specs.declared.Answer.{Answer}
 use Rattle.block.specs.Block.{refusal, family, samples, arm, pose}
 use Rattle.solve.specs.Solve.{answers, solve}
 use Rattle.solve.specs.declared.Solved.{Solved}
-use Rattle.lines.specs.Text.{digits, places, decimal}
-use Rattle.lines.specs.Lists.{line, line-at, lines-of}
+use Rattle.text.specs.Text.{digits, places, decimal}
+use Rattle.text.specs.Lists.{line, line-at, lines-of}
 use Rattle.lines.specs.Lines.{solve-block, block-answers, answer-line}
-use Rattle.lines.proofs.Laws.{one-more}
+use Rattle.text.proofs.Laws.{one-more}
 
 -- the six angles of answer i
 angles-at : (d : Answer) (qs : List Answer) (rest : List Float) (i : ℕ) → i < length qs → take 6 (drop (6 * i) (flatMap six qs ++ rest)) ≡ six (getD qs i d)

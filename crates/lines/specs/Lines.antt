@@ -11,8 +11,8 @@ use Rattle.answers.specs.declared.Answer.{Answer}
 use Rattle.block.specs.Block.{refusal, family, samples, arm, pose}
 use Rattle.solve.specs.Solve.{answers, solve}
 use Rattle.solve.specs.declared.Solved.{Solved}
-use Rattle.lines.specs.Text.{text, decimal}
-use Rattle.lines.specs.Lists.{head, angle}
+use Rattle.text.specs.Text.{text, decimal}
+use Rattle.text.specs.Lists.{head, angle}
 
 -- refusals 1 to 3, or what the solve call gives that has room for so many answers
 unfoldable pub solve-block : List ℕ → ℕ → Solved

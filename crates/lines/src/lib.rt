@@ -1,17 +1,14 @@
 // The lines of a block as bytes, made from the block and its place.
-mod lists;
-mod text;
-
-use lists::head;
-use lists::lines_of;
 use solve::Solved;
 use solve::solve;
 pub use text::Buffer;
+use text::head;
+use text::lines_of;
 ghost use mathlib.Core.Path.{_≡_};
 ghost use Prim.Native.Nat.{min, _≤_};
 ghost use lib.ListN.{length};
 ghost use Rattle.answers.specs.Written.{room, written, flagged};
-ghost use Rattle.lines.specs.Text.{Put};
+ghost use Rattle.text.specs.Text.{Put};
 ghost use Rattle.lines.specs.Lines.{solve-block, block-answers, lines};
 
 // How many answers there are lines for.

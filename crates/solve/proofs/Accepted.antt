@@ -8,7 +8,7 @@ use borrow.Author.Tests.{leb-true, eqb-true}
 use lib.Dec.{leb, eqb}
 use lib.Ieee.{Float}
 use lib.ListN.{length}
-use Rattle.solve.specs.Judge.{known, samples-fit, all-finite, judge}
+use Rattle.refusals.specs.Judge.{known, samples-fit, all-finite, judge}
 
 pub record Accepted (family n : ℕ) (arm pose : List Float) : Type 0 where
   pub family-low : 1 ≤ family

@@ -16,7 +16,7 @@ use Rattle.search_error.proofs.Strict.{strict}
 use Rattle.search.specs.Demand.{two-parallel-search}
 use Rattle.search.proofs.Listed.{within}
 use Rattle.two_parallel.specs.TwoParallel.{answer-of, two-parallel, evaluations}
-use Rattle.solve.specs.Judge.{judge}
+use Rattle.refusals.specs.Judge.{judge}
 use Rattle.solve.specs.Solve.{Full, tolerance, by-family, full, answers, solve}
 use Rattle.solve.specs.Demand3.{err, definition, answered, Finite, SolveDemand3}
 

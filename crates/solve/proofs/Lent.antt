@@ -10,7 +10,7 @@ use lib.ListN.{length}
 use Rattle.answers.specs.Written.{room, fitting, written, flagged}
 use Rattle.answers.proofs.Kept.{Kept, kept}
 use Rattle.answers.proofs.Laws.{nothing}
-use Rattle.solve.specs.Judge.{judge}
+use Rattle.refusals.specs.Judge.{judge}
 use Rattle.solve.specs.Solve.{Full, no-search, full, answers, solve}
 use Rattle.solve.specs.declared.Solved.{Solved}
 

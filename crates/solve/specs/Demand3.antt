@@ -17,7 +17,7 @@ use Rattle.search_definition.specs.Demand.{Demand3}
 use Rattle.search_error.specs.Error as Error
 use Rattle.search_error.specs.Error.{error-i}
 use Rattle.two_parallel.specs.TwoParallel.{answer-of}
-use Rattle.solve.specs.Judge.{all-finite}
+use Rattle.refusals.specs.Judge.{all-finite}
 use Rattle.solve.specs.Solve.{tolerance, answers, solve}
 
 module _ (n : ℕ) (arm pose : List Float) where

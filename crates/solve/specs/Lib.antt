@@ -1,3 +1,2 @@
-pub mod Judge
 pub mod Solve
 pub mod Demand3

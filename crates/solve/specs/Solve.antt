@@ -21,7 +21,7 @@ use Rattle.families.specs.ThreeParallelTwoIntersecting.{three-parallel-two-inte
 use Rattle.families.specs.ThreeParallel.{three-parallel}
 use Rattle.two_parallel.specs.TwoParallel.{two-parallel, evaluations}
 use Rattle.two_parallel.specs.declared.Counted.{Counted}
-use Rattle.solve.specs.Judge.{judge, refusal-9}
+use Rattle.refusals.specs.Judge.{judge, refusal-9}
 use Rattle.solve.specs.declared.Solved.{Solved}
 
 -- all answers in the Rust's order, whether or not they fit the lists, and how often the search error was evaluated

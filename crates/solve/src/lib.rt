@@ -1,20 +1,17 @@
 // The solve call: it judges its input, solves for the family, and gives the refusal and the counts.
 // It equals its definition in specs/ on every input: any family, any n, slices of any length, any
 // numbers.
-mod refusals;
-
 use kinematics::Kinematics;
 use linear::Matrix3;
 use linear::Vector3;
-pub use refusals::first_not_finite;
-pub use refusals::judge;
+use refusals::judge;
 use refusals::refusal_9;
 use two_parallel::Counted;
 ghost use mathlib.Core.Path.{_≡_};
 ghost use mathlib.Core.Bool.{true};
 ghost use Prim.Native.Nat.{_≤_};
 ghost use Rattle.answers.specs.Written.{room, written, flagged};
-ghost use Rattle.solve.specs.Judge.{samples-fit};
+ghost use Rattle.refusals.specs.Judge.{samples-fit};
 ghost use Rattle.solve.specs.Solve.{by-family, answers, solve, Solves};
 
 // The tolerance of subproblem1's flag.

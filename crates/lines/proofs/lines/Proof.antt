@@ -7,10 +7,10 @@ use lib.Ieee.{Float}
 use lib.ListN.{length}
 use Rattle.answers.specs.Written.{room, written, flagged}
 use Rattle.solve.specs.declared.Solved.{Solved}
-use Rattle.lines.specs.Text.{Put}
-use Rattle.lines.specs.Lists.{head, lines-of}
+use Rattle.text.specs.Text.{Put}
+use Rattle.text.specs.Lists.{head, lines-of}
 use Rattle.lines.specs.Lines.{solve-block, block-answers, lines}
-use Rattle.lines.proofs.Laws.{both}
+use Rattle.text.proofs.Laws.{both}
 use Rattle.lines.proofs.Printed.{counted, printed}
 use Rattle.lines.proofs.lines.Statement.{statement}
 use Rattle.lines.proofs.lines.Tie as tie

@@ -15,7 +15,7 @@ use Rattle.kinematics.specs.declared.Kinematics.{Kinematics}
 use Rattle.answers.specs.Written.{room, written, flagged}
 use Rattle.answers.proofs.Laws.{nothing}
 use Rattle.two_parallel.specs.declared.Counted.{Counted}
-use Rattle.solve.specs.Judge.{judge, refusal-9, samples-fit}
+use Rattle.refusals.specs.Judge.{judge, refusal-9, samples-fit}
 use Rattle.solve.specs.Solve.{Full, no-search, tolerance, by-family, full, answers, solve, Solves}
 use Rattle.solve.specs.declared.Solved.{Solved}
 use Rattle.solve.proofs.Accepted.{Accepted, accepted}

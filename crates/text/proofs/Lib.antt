@@ -1,0 +1,3 @@
+pub mod Laws
+pub mod Value
+pub mod Known
