@@ -32,13 +32,13 @@ const LONG: usize = 54;
 
 fn arm(bytes: &[u8; 896]) -> [f64; 39] {
     let mut xs = [0.0; 39];
-    cases::arguments(bytes, ARM, &mut xs);
+    cases::numbers(bytes, ARM, &mut xs);
     xs
 }
 
 fn pose(bytes: &[u8; 896]) -> [f64; 12] {
     let mut xs = [0.0; 12];
-    cases::arguments(bytes, POSE, &mut xs);
+    cases::numbers(bytes, POSE, &mut xs);
     xs
 }
 

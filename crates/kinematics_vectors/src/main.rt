@@ -11,13 +11,13 @@ const RESULTS: usize = 46;
 
 fn arm(bytes: &[u8; 512]) -> [f64; 39] {
     let mut xs = [0.0; 39];
-    cases::arguments(bytes, ARM, &mut xs);
+    cases::numbers(bytes, ARM, &mut xs);
     xs
 }
 
 fn angles(bytes: &[u8; 512]) -> [f64; 6] {
     let mut xs = [0.0; 6];
-    cases::arguments(bytes, ANGLES, &mut xs);
+    cases::numbers(bytes, ANGLES, &mut xs);
     xs
 }
 

@@ -54,19 +54,19 @@ pub const CHECKS: u64 = 8;
 
 pub fn arm(head: &[u8; 432]) -> Kinematics {
     let mut xs = [0.0; 39];
-    cases::arguments(head, ARM, &mut xs);
+    cases::numbers(head, ARM, &mut xs);
     kinematics::from_numbers(&xs)
 }
 
 pub fn rotation(head: &[u8; 432]) -> Matrix3 {
     let mut xs = [0.0; 12];
-    cases::arguments(head, POSE, &mut xs);
+    cases::numbers(head, POSE, &mut xs);
     kinematics::pose_rotation(&xs)
 }
 
 pub fn place(head: &[u8; 432]) -> Vector3 {
     let mut xs = [0.0; 12];
-    cases::arguments(head, POSE, &mut xs);
+    cases::numbers(head, POSE, &mut xs);
     kinematics::pose_place(&xs)
 }
 

@@ -9,7 +9,7 @@ const RESULTS: usize = 41;
 
 fn arguments(bytes: &[u8; 512]) -> [f64; 40] {
     let mut args = [0.0; 40];
-    cases::arguments(bytes, 1, &mut args);
+    cases::numbers(bytes, 1, &mut args);
     args
 }
 

@@ -63,7 +63,7 @@ fn line_at(out: &mut Buffer, at: usize, list: &[f64], flags: &[u8], i: usize) ->
     let from = 6 * i;
     let to = from + 6;
     let m = angles(out, at, &list[from..to]);
-    let e = spell(out, m, 10, 1, block::byte(flags, i));
+    let e = spell(out, m, 10, 1, words::byte(flags, i));
     put(out, e, b"\n")
 }
 

@@ -74,5 +74,5 @@ pub fn hex(out: &mut Buffer, at: usize, x: f64) -> usize
     ensures { λ r. ⌜ Put (hex x) at (now (out .entry)) (now (out .exit)) r ⌝ }
     ensures { λ r. ⌜ r ≡ at + 16 ⌝ }
 {
-    spell(out, at, 16, 16, block::pattern(x))
+    spell(out, at, 16, 16, words::pattern(x))
 }
