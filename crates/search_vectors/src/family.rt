@@ -1,5 +1,5 @@
 // The answers of family 6.
-use crate::record;
+use search_places::record;
 ghost use Prim.Native.Nat.{_<_, _≤_};
 
 // What subproblem1 flags by.

@@ -1,6 +1,6 @@
 // The list of the search, as one call gives it.
-use crate::record;
 use search::Found;
+use search_places::record;
 ghost use Prim.Native.Nat.{_≤_};
 
 fn check_pairs(

@@ -1,7 +1,7 @@
 // What added one pair, within its row of samples: the refinement of a crossing, or a dip.
 use crate::record;
 use float::is_finite;
-use search::Found;
+use search_dip::pairs::Found;
 use search_edge::edge::Gap;
 use search_error::Given;
 ghost use Prim.Native.Nat.{_<_, _≤_, _+_};
