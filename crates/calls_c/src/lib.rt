@@ -1,17 +1,17 @@
 // The functions by number for a C or Rust caller: what tools/bench_functions.sh measures.
 #[no_mangle]
 pub extern "C" fn saihkeb_polynomial(id: u64, args: &[f64; 40], out: &mut [u64; 23]) {
-    calls::polynomial(id, args, out);
+    polynomial_calls::polynomial(id, args, out);
 }
 
 #[no_mangle]
 pub extern "C" fn saihkeb_subproblem(id: u64, args: &[f64; 40], out: &mut [u64; 23]) {
-    calls::subproblem(id, args, out);
+    subproblem_calls::subproblem(id, args, out);
 }
 
 #[no_mangle]
 pub extern "C" fn saihkeb_reduced_solutionset(count: u64, args: &[f64; 40], out: &mut [u64; 23]) {
-    calls::reduced_solutionset(count, args, out);
+    subproblem_calls::reduced_solutionset(count, args, out);
 }
 
 #[no_mangle]

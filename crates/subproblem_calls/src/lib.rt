@@ -1,11 +1,12 @@
-// The functions of the crate subproblems.
-use crate::shapes::put;
-use crate::shapes::put_pair;
-use crate::shapes::put_pairs;
-use crate::shapes::put_two;
-use crate::shapes::vector;
+// The subproblems, and the choice among subproblem 5's candidates, by number, as polynomial_calls has
+// the functions beneath them.
 use float::SinCos;
 use linear::Vector3;
+use polynomial_calls::shapes::put;
+use polynomial_calls::shapes::put_pair;
+use polynomial_calls::shapes::put_pairs;
+use polynomial_calls::shapes::put_two;
+use polynomial_calls::shapes::vector;
 use solutionset::SinCosSet2;
 use solutionset::Triple;
 use solutionset::TripleSet4;
