@@ -55,7 +55,8 @@ usage: oracle COMMAND
   recover KIND FAMILY SEED COUNT [N]     how many poses, reachable or degenerate, have their own
                                          angles among their answers (n = 200 in family 6);
                                          --arms adds a line for each arm, --tilt for each range
-                                         of the angle between axes 2 and 5
+                                         of the angle between axes 2 and 5, --distance for how
+                                         near the nearest answer is
   missed KIND SEED COUNT [N]             family 6: the poses that have not, each with the reason
   explain Q1 Q2 Q3 Q4 Q5 Q6              family 6: whether the angles that made a block's pose are
                                          among its answers, and if not, the reason
@@ -112,6 +113,7 @@ fn parse(arguments: impl Iterator<Item = String>) -> Result<CommandLine, Failure
             "--list" => line.list = true,
             "--arms" => line.by = By::Arm,
             "--tilt" => line.by = By::Tilt,
+            "--distance" => line.by = By::Distance,
             "--room" => {
                 let room = arguments.next().ok_or("--room needs a number")?;
                 line.room = number(&room)? as usize;
@@ -143,7 +145,9 @@ fn command<A: Arith>(line: &CommandLine, output: &mut impl Write) -> Result<(), 
         )),
         ["pairs"] => told(print_pairs::<A>(&mut io::stdin().lock(), output)),
         ["stand-in", n] => {
-            let n = n.parse().map_err(|_| format!("no number of samples: {n}"))?;
+            let n = n
+                .parse()
+                .map_err(|_| format!("no number of samples: {n}"))?;
             told(print_search(
                 &search_1d_bracketed(stand_in, -PI, PI, n, 0.5),
                 output,

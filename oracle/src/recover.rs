@@ -93,17 +93,35 @@ fn tilt(sample: &Sample) -> f64 {
     across.atan2(h2.dot(&turned).abs()).to_degrees()
 }
 
+/// How near the nearest answer is to the angles that made the pose. A NaN is near to nothing.
+fn nearest(sample: &Sample, list: &Answers) -> &'static str {
+    let within = |most: f64| {
+        let mut answers = list.angles.iter();
+        answers.any(|answer| distance(answer, &sample.angles) <= most)
+    };
+    if list.angles.is_empty() {
+        "no-answer"
+    } else if within(TOLERANCE) {
+        "nearest-to-1e-6"
+    } else if within(1e-3) {
+        "nearest-to-1e-3"
+    } else {
+        "nearest-further"
+    }
+}
+
 /// What poses are counted apart by.
 #[derive(Clone, Copy, PartialEq, Eq)]
 pub enum By {
     Nothing,
     Arm,
     Tilt,
+    Distance,
 }
 
 impl By {
     /// A pose's group; groups are listed in the order of their names.
-    fn group(self, sample: &Sample) -> Option<String> {
+    fn group(self, sample: &Sample, list: &Answers) -> Option<String> {
         const DEGREES: [f64; 6] = [0.3, 1.0, 3.0, 10.0, 30.0, 90.0];
         match self {
             By::Nothing => None,
@@ -113,6 +131,7 @@ impl By {
                 let most = DEGREES.into_iter().find(|&most| tilt <= most);
                 most.map(|most| format!("tilt-to-{most:04.1}"))
             }
+            By::Distance => Some(nearest(sample, list).to_string()),
         }
     }
 }
@@ -136,7 +155,7 @@ pub fn recover<A: Arith>(
         let sample = sample(request.kind, request.family, request.seed, place, n);
         let kin = Kinematics::from_arm(&sample.arm);
         let list = family_answers::<A>(sample.family, sample.n as usize, &kin, &sample.pose);
-        if let Some(group) = by.group(&sample) {
+        if let Some(group) = by.group(&sample, &list) {
             let own = counts.groups.entry(group).or_default();
             own.count(&sample, &list);
         }
