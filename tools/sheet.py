@@ -63,6 +63,9 @@ ZERO_OFFSETS = {1: ["p4", "p5"], 2: ["p1", "p4", "p5"], 3: ["p4", "p5"], 4: ["p5
 MUST_NOT_MEET = {3: [1, 2], 5: [5], 6: [4]}
 SQUARELY = (5, 6)
 
+# The families whose list may be empty for a pose within reach.
+MAY_MISS = (3, 5, 6)
+
 REFUSALS = {
     1: "the last block of the input is shorter than 512 bytes",
     2: "the block is damaged: its check word is not the sum of the others",
@@ -412,6 +415,8 @@ def table(sheet, pose, place, result):
     if sheet.family == 6:
         head += f", {counted(result.evaluations, 'evaluation', 'evaluations')} of the search error"
     yield head
+    if result.answers == 0 and sheet.family in MAY_MISS:
+        yield "  In this family that does not say that the pose is out of reach: docs/DIFFERENCES.md"
     if result.refusal == 9:
         yield f"  refused (9): {REFUSALS[9]}; the first {len(result.angles):,} are here"
     if result.angles:

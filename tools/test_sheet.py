@@ -283,6 +283,11 @@ class Tables(unittest.TestCase):
         self.assertIn("n = 200", text)
         self.assertIn("0 answers, 1,201 evaluations of the search error", text)
 
+    def test_an_empty_list_is_no_verdict_in_some_families(self):
+        lines = ["block 0 refusal 0 answers 0 evals 0"]
+        self.assertIn("does not say", self.shown(ARM_6 + POSE, lines))
+        self.assertNotIn("does not say", self.shown(ARM + POSE, lines))
+
     def test_every_refusal_in_words(self):
         for refusal in range(1, 9):
             text = self.shown(ARM + POSE, [f"block 0 refusal {refusal} answers 0 evals 0"])
