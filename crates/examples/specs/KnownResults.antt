@@ -9,7 +9,7 @@ use lib.ListN.{length}
 use Rattle.float.specs.Num.{whole, nought, two, pi, frac-pi-2}
 use Rattle.float.specs.Root.{sqrt}
 use Rattle.float.specs.Turn.{wrap-to-pi, inverse-wrap-to-pi}
-use Rattle.linear.specs.declared.Vector3.{Vector3}
+use Rattle.vector.specs.declared.Vector3.{Vector3}
 use Rattle.complex.specs.declared.Complex.{Complex}
 use Rattle.polynomial.specs.Convolution.{vec-self-convolve-2, vec-self-convolve-3, vec-convolve-3}
 use Rattle.polynomial.specs.Triangular.{solve-lower-triangular-system-2x2}

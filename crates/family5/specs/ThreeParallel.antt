@@ -6,7 +6,7 @@ use lib.Ieee.{Float}
 use Rattle.float.specs.Num.{nought}
 use Rattle.linear.specs.Matrix.{Matrix, product, apply, transpose, rot}
 use Rattle.linear.specs.Vector.{dot, _+ᵛ_, _-ᵛ_, negᵛ}
-use Rattle.linear.specs.declared.Vector3.{Vector3}
+use Rattle.vector.specs.declared.Vector3.{Vector3}
 use Rattle.solutionset.specs.PairSet4.{get-all}
 use Rattle.solutionset.specs.declared.Pair.{Pair}
 use Rattle.solutionset.specs.declared.PairSet4.{PairSet4}

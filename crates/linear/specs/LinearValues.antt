@@ -7,7 +7,7 @@ use Rattle.float.specs.Num.{whole}
 use Rattle.float.specs.Root.{sqrt}
 use Rattle.linear.specs.Vector.{dot, cross, norm}
 use Rattle.linear.specs.Matrix.{apply, rodrigues}
-use Rattle.linear.specs.declared.Vector3.{Vector3}
+use Rattle.vector.specs.declared.Vector3.{Vector3}
 
 abbrev vector : ℕ → ℕ → ℕ → Vector3
 vector x y z = record { x = whole (pos x); y = whole (pos y); z = whole (pos z) }

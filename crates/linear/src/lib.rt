@@ -1,7 +1,6 @@
-// Vectors and matrices of three dimensions, as document 01 fixes nalgebra's: each function equals
-// its definition in specs/ on every input.
+// Matrices of three dimensions and rotations, as document 01 fixes nalgebra's, and the operations on
+// vectors by name: each function equals its definition in specs/ on every input.
 mod matrix;
-mod vector;
 
 pub use matrix::apply;
 pub use matrix::hat;
@@ -12,6 +11,7 @@ pub use matrix::rot;
 pub use matrix::rot_unit;
 pub use matrix::row_apply;
 pub use matrix::transpose;
+pub use vector::Vector3;
 pub use vector::add;
 pub use vector::column_sum;
 pub use vector::cross;
@@ -23,12 +23,6 @@ pub use vector::normalize;
 pub use vector::over;
 pub use vector::scale;
 pub use vector::sub;
-
-pub struct Vector3 {
-    pub x: f64,
-    pub y: f64,
-    pub z: f64,
-}
 
 // Three rows.
 pub type Matrix3 = [[f64; 3]; 3];

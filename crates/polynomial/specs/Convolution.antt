@@ -2,7 +2,7 @@
 use lib.Ieee.{neg}
 use Rattle.float.specs.Num.{_⊕_, _⊗_, _⊘_, one, two}
 use Rattle.linear.specs.Vector.{dot, cross, norm-squared}
-use Rattle.linear.specs.declared.Vector3.{Vector3}
+use Rattle.vector.specs.declared.Vector3.{Vector3}
 use Rattle.polynomial.specs.declared.Vector2.{Vector2}
 use Rattle.polynomial.specs.declared.Vector5.{Vector5}
 use Rattle.polynomial.specs.declared.Cone.{Cone}

@@ -7,7 +7,7 @@ use lib.Ieee.{Float, neg, lt, eq}
 use Rattle.float.specs.Num.{_⊕_, _⊖_, _⊗_, _⊘_, nought, one, two}
 use Rattle.float.specs.Root.{sqrt}
 use Rattle.linear.specs.Vector.{dot, norm}
-use Rattle.linear.specs.declared.Vector3.{Vector3}
+use Rattle.vector.specs.declared.Vector3.{Vector3}
 use Rattle.polynomial.specs.declared.Vector4.{Vector4}
 use Rattle.qr.specs.declared.QrFactors.{QrFactors}
 use Rattle.qr.specs.declared.householder.Reflection4.{Reflection4}

@@ -17,7 +17,7 @@ use Rattle.root.specs.Root.{sqrt, sqrtAt}
 use Rattle.float.specs.Sine.{sin}
 use Rattle.linear.specs.Vector.{norm, _-ᵛ_}
 use Rattle.linear.specs.Matrix.{Matrix, part, row, apply, transpose, rodrigues, rot-unit, rot}
-use Rattle.linear.specs.declared.Vector3.{Vector3}
+use Rattle.vector.specs.declared.Vector3.{Vector3}
 use Rattle.solutionset.specs.PairSet4.{get-all, size}
 use Rattle.solutionset.specs.declared.Pair.{Pair}
 use Rattle.kinematics.specs.declared.Kinematics.{Kinematics}

@@ -8,7 +8,7 @@ use lib.Dec.{eqb}
 use lib.Ieee.{Float, binary64, ofBits}
 use lib.ListN.{length}
 use Rattle.linear.specs.Matrix.{Matrix}
-use Rattle.linear.specs.declared.Vector3.{Vector3}
+use Rattle.vector.specs.declared.Vector3.{Vector3}
 use Rattle.kinematics.specs.Kinematics.{from-numbers}
 use Rattle.kinematics.specs.Pose.{pose-rotation, pose-place}
 use Rattle.kinematics.specs.declared.Kinematics.{Kinematics}

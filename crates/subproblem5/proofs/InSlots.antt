@@ -10,7 +10,7 @@ use lib.Seq.{set-append-seam, append-snoc, take-append-seam, drop-append-add, se
 use Rattle.float.specs.Num.{_⊖_, nought}
 use Rattle.float.specs.Number.{abs}
 use Rattle.linear.specs.Vector.{scaleᵛ}
-use Rattle.linear.specs.declared.Vector3.{Vector3}
+use Rattle.vector.specs.declared.Vector3.{Vector3}
 use Rattle.solutionset.specs.Slots.{padded}
 use Rattle.solutionset.specs.TripleSet4.{none, slots}
 use Rattle.solutionset.specs.declared.Triple.{Triple}

@@ -11,7 +11,7 @@ use Rattle.float.specs.Arctangent.{atan2}
 use Rattle.float.specs.Root.{sqrt}
 use Rattle.linear.specs.Vector.{dot, norm, _+ᵛ_, _-ᵛ_, scaleᵛ}
 use Rattle.linear.specs.Matrix.{apply, outer}
-use Rattle.linear.specs.declared.Vector3.{Vector3}
+use Rattle.vector.specs.declared.Vector3.{Vector3}
 use Rattle.solutionset.specs.Slots.{padded}
 use Rattle.solutionset.specs.TripleSet4.{none}
 use Rattle.solutionset.specs.declared.Triple.{Triple}

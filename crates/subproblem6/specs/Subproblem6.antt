@@ -7,7 +7,7 @@ use lib.ListN.{getD}
 use Rattle.float.specs.Num.{_⊕_, _⊖_, _⊗_}
 use Rattle.float.specs.Arctangent.{atan2}
 use Rattle.linear.specs.Vector.{dot}
-use Rattle.linear.specs.declared.Vector3.{Vector3}
+use Rattle.vector.specs.declared.Vector3.{Vector3}
 use Rattle.solutionset.specs.PairSet4.{get-all, from-vec}
 use Rattle.solutionset.specs.declared.Pair.{Pair}
 use Rattle.solutionset.specs.declared.PairSet4.{PairSet4}

@@ -6,7 +6,7 @@ use Rattle.float.specs.Num.{_⊖_}
 use Rattle.float.specs.Number.{abs}
 use Rattle.float.specs.Arctangent.{atan2}
 use Rattle.linear.specs.Vector.{dot, norm}
-use Rattle.linear.specs.declared.Vector3.{Vector3}
+use Rattle.vector.specs.declared.Vector3.{Vector3}
 -- 1e-6
 pub use Rattle.norms.specs.Norms.{tolerance}
 use Rattle.subproblems.specs.Columns.{columns}

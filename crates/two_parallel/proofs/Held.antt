@@ -11,7 +11,7 @@ use lib.Ieee.{Float, nan}
 use lib.ListN.{length, take, drop, getD, length-map, List·getD-map}
 use lib.Seq.{sets, sets-eq, take-at, getD-take, length-take-le}
 use Rattle.linear.specs.Matrix.{Matrix}
-use Rattle.linear.specs.declared.Vector3.{Vector3}
+use Rattle.vector.specs.declared.Vector3.{Vector3}
 use Rattle.solutionset.specs.PairSet4.{size}
 use Rattle.solutionset.specs.declared.PairSet4.{PairSet4}
 use Rattle.kinematics.specs.declared.Kinematics.{Kinematics}
@@ -29,36 +29,13 @@ use Rattle.search.specs.Searched.{Searched, search-within}
 use Rattle.search.specs.Demand.{two-parallel-search}
 use Rattle.search_dip.specs.declared.pairs.Found.{Found}
 use Rattle.search.proofs.Listed.{same-error}
-use Rattle.two_parallel.specs.Pairs.{pair, zipped, first-pairs, Answered, AllAnswered}
+use Rattle.two_parallel_answers.specs.Pairs.{pair, zipped, first-pairs, Answered, AllAnswered}
 
 -- ---- lists of pairs
 zipped-map : (l : List Entry) → zipped (map angle-of l) (map component-of l) ≡ map pair-of l
 unfolding zipped pair-of
 zipped-map [] = refl
 zipped-map (e ∷ l) = ap (λ (t : List Pair). pair (angle-of e) (component-of e) ∷ t) (zipped-map l)
-
-zipped-at : (qs : List Float) (cs : List ℕ) (j : ℕ) (d : Pair) → j < length qs → j < length cs → getD (zipped qs cs) j d ≡ pair (getD qs j nan) (getD cs j 0)
-unfolding zipped
-zipped-at [] cs j d h k = absurd (not-suc-le-zero h)
-zipped-at (q ∷ qs) [] j d h k = absurd (not-suc-le-zero k)
-zipped-at (q ∷ qs) (i ∷ cs) zero d h k = refl
-zipped-at (q ∷ qs) (i ∷ cs) (suc j) d h k = zipped-at qs cs j d (omega arith) (omega arith)
-
-zipped-long : (qs : List Float) (cs : List ℕ) → length qs ≡ length cs → length (zipped qs cs) ≡ length qs
-unfolding zipped
-zipped-long [] cs e = refl
-zipped-long (q ∷ qs) [] e = sym e
-zipped-long (q ∷ qs) (i ∷ cs) e = ap suc (zipped-long qs cs (omega arith))
-
-module _ (m : ℕ) (qs : List Float) (cs : List ℕ) (hq : m ≤ length qs) (hc : m ≤ length cs) where
-  pub first-long : length (first-pairs m qs cs) ≡ m
-  first-long = zipped-long (take m qs) (take m cs) (length-take-le m qs hq ∙ sym (length-take-le m cs hc)) ∙ length-take-le m qs hq
-
-  pub first-at : (j : ℕ) (d : Pair) → j < m → getD (first-pairs m qs cs) j d ≡ pair (getD qs j nan) (getD cs j 0)
-  first-at j d h =
-      let a : length (take m qs) ≡ m = length-take-le m qs hq in
-      let b : length (take m cs) ≡ m = length-take-le m cs hc in
-      rw (zipped-at (take m qs) (take m cs) j d (omega arith) (omega arith), getD-take m qs j nan h, getD-take m cs j 0 h)
 
 -- ---- after a search whose pairs all fit
 module _ (o : Out) (q : List Float) (c : List ℕ) {q′ : List Float} {c′ : List ℕ} {r : Found} (s : Searched o q c q′ c′ r) (hq : length (o .found) ≤ length q) (hc : length (o .found) ≤ length c) where

@@ -2,7 +2,7 @@
 use mathlib.Core.Path.{_≡_, refl, _∙_, ap}
 use lib.Ieee.{Float}
 use Rattle.linear.specs.Matrix.{Matrix, product, transpose, rot}
-use Rattle.linear.specs.declared.Vector3.{Vector3}
+use Rattle.vector.specs.declared.Vector3.{Vector3}
 use Rattle.solutionset.specs.PairSet4.{at}
 use Rattle.solutionset.specs.declared.Pair as Angles
 use Rattle.solutionset.specs.declared.PairSet4.{PairSet4}
@@ -10,7 +10,7 @@ use Rattle.kinematics.specs.declared.Kinematics.{Kinematics}
 use Rattle.search_definition.specs.Found.{Pair}
 use Rattle.search_error.specs.Given.{given, turned}
 use Rattle.search_error.proofs.Once.{t64-same}
-use Rattle.two_parallel.specs.Given.{t23, q2, q5, answer, answer-at}
+use Rattle.two_parallel_answers.specs.Given.{t23, q2, q5, answer, answer-at}
 use Rattle.two_parallel.specs.TwoParallel as Plain
 use Rattle.two_parallel.specs.TwoParallel.{answer-of}
 

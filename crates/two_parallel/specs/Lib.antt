@@ -1,3 +1,1 @@
 pub mod TwoParallel
-pub mod Given
-pub mod Pairs

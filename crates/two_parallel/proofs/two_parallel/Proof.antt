@@ -9,7 +9,7 @@ use lib.ListN.{length, replicate, length-replicate}
 use lib.Seq.{length-sets}
 use Rattle.float.specs.Num.{nought}
 use Rattle.linear.specs.Matrix.{Matrix}
-use Rattle.linear.specs.declared.Vector3.{Vector3}
+use Rattle.vector.specs.declared.Vector3.{Vector3}
 use Rattle.kinematics.specs.declared.Kinematics.{Kinematics}
 use Rattle.answers.specs.Written.{Wrote}
 use Rattle.answers.specs.declared.Answer.{Answer}
@@ -20,8 +20,8 @@ use Rattle.search_error.specs.declared.Given.{Given}
 use Rattle.search_dip.specs.State.{angle-of, component-of}
 use Rattle.search.specs.Searched.{Searched, search-within}
 use Rattle.search_dip.specs.declared.pairs.Found.{Found}
-use Rattle.two_parallel.specs.Given.{answer-at}
-use Rattle.two_parallel.specs.Pairs.{first-pairs, AllAnswered}
+use Rattle.two_parallel_answers.specs.Given.{answer-at}
+use Rattle.two_parallel_answers.specs.Pairs.{first-pairs, AllAnswered}
 use Rattle.two_parallel.specs.TwoParallel.{answer-of, two-parallel, evaluations}
 use Rattle.two_parallel.proofs.Once.{once}
 use Rattle.two_parallel.proofs.Held.{pairs-fit, all-answered, search-held, search-evals}

@@ -3,7 +3,7 @@ use mathlib.Core.Path.{_≡_}
 use lib.Ieee.{Float, neg}
 use Rattle.float.specs.Num.{_⊕_, _⊗_, _⊘_, one, two}
 use Rattle.linear.specs.Vector.{dot, cross, norm-squared}
-use Rattle.linear.specs.declared.Vector3.{Vector3}
+use Rattle.vector.specs.declared.Vector3.{Vector3}
 use Rattle.polynomial.specs.Convolution.{cone-polynomials}
 use Rattle.polynomial.specs.declared.Cone.{Cone}
 use Rattle.polynomial.proofs.convolution.cone_polynomials.Statement.{statement}

@@ -1,6 +1,6 @@
 -- The calls, one equation each.
 use mathlib.Core.Path.{_≡_}
-use Rattle.linear.specs.declared.Vector3.{Vector3}
+use Rattle.vector.specs.declared.Vector3.{Vector3}
 use Rattle.polynomial.specs.declared.Vector4.{Vector4}
 use Rattle.qr.specs.Qr.{reflection-4, reflect-4, lower, reflection-3, reflect-3, columns, signed, qr}
 use Rattle.qr.specs.declared.QrFactors.{QrFactors}

@@ -3,7 +3,7 @@ use mathlib.Core.Path.{_≡_}
 use mathlib.Core.Bool.{Bool}
 use lib.Ieee.{Float}
 use Rattle.linear.specs.Vector.{dot, norm}
-use Rattle.linear.specs.declared.Vector3.{Vector3}
+use Rattle.vector.specs.declared.Vector3.{Vector3}
 use Rattle.qr.specs.Qr.{lead, zero-3, reflection-3}
 use Rattle.qr.specs.declared.householder.Reflection3.{Reflection3}
 use Rattle.qr.proofs.householder.reflection_3.Statement.{statement}

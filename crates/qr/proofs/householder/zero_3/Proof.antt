@@ -1,7 +1,7 @@
 -- Each way by its tests.
 use mathlib.Core.Path.{_≡_}
 use mathlib.Core.Bool.{true, false}
-use Rattle.linear.specs.declared.Vector3.{Vector3}
+use Rattle.vector.specs.declared.Vector3.{Vector3}
 use lib.Ieee.{eq}
 use Rattle.float.specs.Num.{nought}
 use Rattle.qr.specs.Qr.{zero-3}

@@ -2,7 +2,7 @@
 use mathlib.Core.Path.{_≡_}
 use mathlib.Core.Bool.{Bool, true, false}
 use Rattle.polynomial.specs.declared.Vector4.{Vector4}
-use Rattle.linear.specs.declared.Vector3.{Vector3}
+use Rattle.vector.specs.declared.Vector3.{Vector3}
 use lib.Ieee.{eq}
 use Rattle.float.specs.Num.{nought}
 use Rattle.qr.specs.Qr.{lower, zero-3, zero-4}

@@ -5,7 +5,7 @@ use mathlib.Core.List.{[]}
 use lib.Ieee.{Float, lt}
 use Rattle.float.specs.Num.{nought}
 use Rattle.linear.specs.Vector.{scaleᵛ}
-use Rattle.linear.specs.declared.Vector3.{Vector3}
+use Rattle.vector.specs.declared.Vector3.{Vector3}
 use Rattle.solutionset.specs.TripleSet4.{slots}
 use Rattle.solutionset.specs.declared.TripleSlots4.{TripleSlots4}
 use Rattle.subproblem5.specs.Subproblem5.{sq, sides, signed, at-root}

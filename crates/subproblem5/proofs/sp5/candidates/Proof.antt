@@ -8,7 +8,7 @@ use lib.Ieee.{Float, nan}
 use lib.ListN.{length, getD, set, take, length-take, length-append}
 use lib.Seq.{take-suc, take-all, getD-take}
 use borrow.Author.Needs.{needs}
-use Rattle.linear.specs.declared.Vector3.{Vector3}
+use Rattle.vector.specs.declared.Vector3.{Vector3}
 use Rattle.solutionset.specs.Slots.{padded}
 use Rattle.solutionset.specs.TripleSet4.{none, slots}
 use Rattle.solutionset.specs.declared.Triple.{Triple}

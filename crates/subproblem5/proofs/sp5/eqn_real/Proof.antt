@@ -3,7 +3,7 @@ use mathlib.Core.Path.{_≡_}
 use lib.Ieee.{Float}
 use Rattle.float.specs.Num.{_⊖_, _⊗_}
 use Rattle.linear.specs.Vector.{_-ᵛ_}
-use Rattle.linear.specs.declared.Vector3.{Vector3}
+use Rattle.vector.specs.declared.Vector3.{Vector3}
 use Rattle.polynomial.specs.Const.{four}
 use Rattle.polynomial.specs.Convolution.{vec-self-convolve-2, vec-self-convolve-3, vec-convolve-3}
 use Rattle.polynomial.specs.declared.Cone.{Cone}

@@ -8,7 +8,7 @@ use borrow.Author.Needs.{needs}
 use Rattle.float.specs.Num.{_⊖_}
 use Rattle.float.specs.Number.{abs}
 use Rattle.float.specs.Root.{sqrt}
-use Rattle.linear.specs.declared.Vector3.{Vector3}
+use Rattle.vector.specs.declared.Vector3.{Vector3}
 use Rattle.solutionset.specs.declared.Triple.{Triple}
 use Rattle.solutionset.specs.declared.TripleSlots4.{TripleSlots4}
 use Rattle.subproblem5.specs.Points.{side-of}

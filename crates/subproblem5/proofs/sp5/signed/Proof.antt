@@ -4,7 +4,7 @@ use native.Mathlib.Omega.{arith}
 use mathlib.Core.Path.{_≡_, _∙_, ap}
 use mathlib.Core.List.{List, [], _++_}
 use lib.ListN.{length, length-append}
-use Rattle.linear.specs.declared.Vector3.{Vector3}
+use Rattle.vector.specs.declared.Vector3.{Vector3}
 use Rattle.solutionset.specs.TripleSet4.{slots}
 use Rattle.solutionset.specs.declared.Triple.{Triple}
 use Rattle.solutionset.specs.declared.TripleSlots4.{TripleSlots4}

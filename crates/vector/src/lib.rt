@@ -1,7 +1,13 @@
-// Vectors.
-use crate::Vector3;
+// Vectors of three dimensions, as document 01 fixes nalgebra's: each function equals its definition in
+// specs/ on every input.
 ghost use mathlib.Core.Path.{_≡_};
-ghost use Rattle.linear.specs.Vector.{dot, cross, norm, norm-squared, normalize, _+ᵛ_, _-ᵛ_, negᵛ, scaleᵛ, overᵛ, column-sum};
+ghost use Rattle.vector.specs.Vector.{dot, cross, norm, norm-squared, normalize, _+ᵛ_, _-ᵛ_, negᵛ, scaleᵛ, overᵛ, column-sum};
+
+pub struct Vector3 {
+    pub x: f64,
+    pub y: f64,
+    pub z: f64,
+}
 
 pub fn dot(a: Vector3, b: Vector3) -> f64
     ensures { λ r. ⌜ r ≡ dot a b ⌝ }
@@ -28,7 +34,7 @@ pub fn norm_squared(a: Vector3) -> f64
 pub fn norm(a: Vector3) -> f64
     ensures { λ r. ⌜ r ≡ norm a ⌝ }
 {
-    float::sqrt(dot(a, a))
+    root::sqrt(dot(a, a))
 }
 
 pub fn normalize(a: Vector3) -> Vector3

@@ -13,11 +13,11 @@ use Rattle.answers.proofs.Laws.{by-name}
 use Rattle.answers.proofs.Turns.{Turns, start-long, again, small-sum, end, angles-kept, flags-kept}
 use Rattle.search_definition.specs.Found.{Pair}
 use Rattle.search_error.specs.declared.Given.{Given}
-use Rattle.two_parallel.specs.Given.{answer-at}
-use Rattle.two_parallel.specs.Pairs.{pair, first-pairs, Answered, AllAnswered}
-use Rattle.two_parallel.proofs.Held.{first-long, first-at}
-use Rattle.two_parallel.proofs.write_answers.Statement.{statement}
-use Rattle.two_parallel.proofs.write_answers.Tie as tie
+use Rattle.two_parallel_answers.specs.Given.{answer-at}
+use Rattle.two_parallel_answers.specs.Pairs.{pair, first-pairs, Answered, AllAnswered}
+use Rattle.two_parallel_answers.proofs.Zipped.{first-long, first-at}
+use Rattle.two_parallel_answers.proofs.write_answers.Statement.{statement}
+use Rattle.two_parallel_answers.proofs.write_answers.Tie as tie
 
 abbrev none : Pair
 none = pair nan 0

@@ -3,14 +3,14 @@ use mathlib.Core.Path.{_≡_}
 use lib.Ieee.{Float}
 use Rattle.linear.specs.Matrix.{Matrix, product, apply, rot-unit}
 use Rattle.linear.specs.Vector.{_-ᵛ_}
-use Rattle.linear.specs.declared.Vector3.{Vector3}
+use Rattle.vector.specs.declared.Vector3.{Vector3}
 use Rattle.subproblems.specs.Subproblem1.{subproblem1-within}
 use Rattle.subproblems.specs.declared.Solved1.{Solved1}
 use Rattle.search_error.specs.declared.Given.{Given}
 use Rattle.search_error.specs.declared.Turned.{Turned}
-use Rattle.two_parallel.specs.Given.{q2}
-use Rattle.two_parallel.proofs.q2.Statement.{statement}
-use Rattle.two_parallel.proofs.q2.Tie as tie
+use Rattle.two_parallel_answers.specs.Given.{q2}
+use Rattle.two_parallel_answers.proofs.q2.Statement.{statement}
+use Rattle.two_parallel_answers.proofs.q2.Tie as tie
 
 met : (g : Given) (tolerance : Float) (t : Turned) (r-16 r-34 : Matrix) (theta : Float)
     {r-13 r-14 : Matrix}

@@ -9,10 +9,10 @@ use Rattle.answers.specs.declared.Answer.{Answer}
 use Rattle.search_error.specs.Given.{turned, t64}
 use Rattle.search_error.specs.declared.Given.{Given}
 use Rattle.search_error.specs.declared.Turned.{Turned}
-use Rattle.two_parallel.specs.Given.{answer, answer-at}
-use Rattle.two_parallel.specs.Pairs.{pair, Answered}
-use Rattle.two_parallel.proofs.answer_at.Statement.{statement}
-use Rattle.two_parallel.proofs.answer_at.Tie as tie
+use Rattle.two_parallel_answers.specs.Given.{answer, answer-at}
+use Rattle.two_parallel_answers.specs.Pairs.{pair, Answered}
+use Rattle.two_parallel_answers.proofs.answer_at.Statement.{statement}
+use Rattle.two_parallel_answers.proofs.answer_at.Tie as tie
 
 module _ (g : Given) (q1 : Float) (i : ℕ) {t : Turned} {set : PairSet4} (et : t ≡ turned g q1) (es : set ≡ t64 g t) where
   in-bounds : Answered g q1 i → i < size set

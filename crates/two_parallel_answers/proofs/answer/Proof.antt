@@ -11,9 +11,9 @@ use Rattle.answers.specs.declared.Answer.{Answer}
 use Rattle.search_error.specs.Given.{turned-rotation}
 use Rattle.search_error.specs.declared.Given.{Given}
 use Rattle.search_error.specs.declared.Turned.{Turned}
-use Rattle.two_parallel.specs.Given.{t23, q2, q5, answer}
-use Rattle.two_parallel.proofs.answer.Statement.{statement}
-use Rattle.two_parallel.proofs.answer.Tie as tie
+use Rattle.two_parallel_answers.specs.Given.{t23, q2, q5, answer}
+use Rattle.two_parallel_answers.proofs.answer.Statement.{statement}
+use Rattle.two_parallel_answers.proofs.answer.Tie as tie
 
 met : (g : Given) (tolerance q1 : Float) (t : Turned) (a : Pair)
     {r-34 r-56 m r-65 r-16 : Matrix}
