@@ -8,9 +8,9 @@ use Rattle.solutionset.specs.declared.PairSet4.{PairSet4}
 use Rattle.polynomial.specs.Const.{epsilon}
 use Rattle.polynomial.specs.Roots.{roots, real-parts, real-quartic}
 use Rattle.quartic.specs.Quartic.{solve-quartic-roots}
-use Rattle.polynomial.specs.declared.Vector2.{Vector2}
-use Rattle.polynomial.specs.declared.Vector5.{Vector5}
-use Rattle.polynomial.specs.declared.Matrix2.{Matrix2}
+use Rattle.convolution.specs.declared.Vector2.{Vector2}
+use Rattle.convolution.specs.declared.Vector5.{Vector5}
+use Rattle.convolution.specs.declared.Matrix2.{Matrix2}
 use Rattle.polynomial.specs.declared.Conic.{Conic}
 
 abbrev pub transpose-2 : Matrix2 → Matrix2

@@ -4,21 +4,13 @@ use solve::solve;
 pub use text::Buffer;
 use text::head;
 use text::lines_of;
+use text::shown;
 ghost use mathlib.Core.Path.{_≡_};
-ghost use Prim.Native.Nat.{min, _≤_};
+ghost use Prim.Native.Nat.{_≤_};
 ghost use lib.ListN.{length};
 ghost use Rattle.answers.specs.Written.{room, written, flagged};
 ghost use Rattle.text.specs.Text.{Put};
 ghost use Rattle.lines.specs.Lines.{solve-block, block-answers, lines};
-
-// How many answers there are lines for.
-const SPACE: usize = 1024;
-
-fn shown(answers: usize) -> usize
-    ensures { λ r. ⌜ r ≡ min answers 1024 ⌝ }
-{
-    if answers < SPACE { answers } else { SPACE }
-}
 
 // Judges a block and solves it: refusals 1 to 3, or what the solve call gives.
 pub fn solve_block(bytes: &[u8], angles: &mut [f64], flags: &mut [u8]) -> Solved

@@ -10,7 +10,7 @@ use Rattle.complex.specs.declared.Complex.{Complex}
 use Rattle.solutionset.specs.Slots.{padded}
 use Rattle.polynomial.specs.declared.Roots.{Roots}
 use Rattle.polynomial.specs.declared.Quartic.{Quartic}
-use Rattle.polynomial.specs.declared.Vector5.{Vector5}
+use Rattle.convolution.specs.declared.Vector5.{Vector5}
 
 infixl 7 _·ᶜ_
 -- a real factor, as the Rust writes it: before the complex number

@@ -7,7 +7,7 @@ use Rattle.float.specs.Num.{whole}
 use Rattle.float.specs.Root.{sqrt}
 use Rattle.linear.specs.Vector.{norm}
 use Rattle.qr.specs.Qr.{reflection-4, reflect-4, reflection-3, reflect-3, signed, qr}
-use Rattle.polynomial.specs.declared.Matrix2.{Matrix2}
+use Rattle.convolution.specs.declared.Matrix2.{Matrix2}
 use Rattle.polynomial.specs.declared.Vector4.{Vector4}
 
 abbrev number : ℕ → Float

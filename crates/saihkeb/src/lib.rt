@@ -1,17 +1,14 @@
 // The library that a controller links: the solve call, the block call and forward kinematics for C
 // and Rust (include/saihkeb.h is its manual). No call asks anything of its numbers or of its lists'
 // lengths: each equals its definition on every input.
-mod pose;
-
-use pose::put_pose;
-use pose::six;
 use solve::Solved;
 ghost use mathlib.Core.Path.{_≡_};
 ghost use lib.Seq.{sets};
 ghost use Rattle.answers.specs.Written.{room, written, flagged};
 ghost use Rattle.solve.specs.Solve.{answers, solve};
 ghost use Rattle.lines.specs.Lines.{solve-block, block-answers};
-ghost use Rattle.saihkeb.specs.Library.{counts-of, forward-refusal, forward-pose};
+ghost use Rattle.forward.specs.Forward.{forward-refusal, forward-pose};
+ghost use Rattle.saihkeb.specs.Library.{counts-of};
 
 // The refusal as the result; the number of answers and of evaluations to the counts.
 fn report(s: Solved, counts: &mut [u64; 2]) -> u64
@@ -66,16 +63,5 @@ pub extern "C" fn saihkeb_forward_kinematics(arm: &[f64], angles: &[f64], pose: 
     ensures result { λ r. ⌜ r ≡ forward-refusal (now (arm .entry)) (now (angles .entry)) (now (pose .entry)) ⌝ }
     ensures pose { λ _. ⌜ now (pose .exit) ≡ forward-pose (now (arm .entry)) (now (angles .entry)) (now (pose .entry)) ⌝ }
 {
-    if arm.len() != 39 {
-        return 5;
-    }
-    if pose.len() != 12 {
-        return 6;
-    }
-    if angles.len() != 6 {
-        return 18;
-    }
-    let kin = kinematics::from_numbers(arm);
-    put_pose(pose, kinematics::forward_kinematics(kin, six(angles)));
-    0
+    forward::forward(arm, angles, pose)
 }

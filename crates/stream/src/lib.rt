@@ -1,49 +1,12 @@
 // What the programs run: blocks are read from standard input to its end, and the lines of each are
 // printed. What is printed is decided in the crate lines; here it is read and written.
-use libc::STDIN_FILENO;
+use input::Got;
+use input::fill;
 use libc::STDOUT_FILENO;
 use lines::Buffer;
 ghost use mathlib.Core.Path.{_≡_};
 ghost use Prim.Native.Nat.{_≤_};
 ghost use lib.ListN.{length};
-ghost use Rattle.stream.specs.Got.{Within};
-
-// How a read ended: with so many bytes, fewer than asked where the input ends, or not at all.
-enum Got {
-    Bytes(usize),
-    Failed,
-}
-
-// One read.
-fn read_some(block: &mut [u8]) -> Got
-    ensures { λ r. ⌜ Within r (length (now (block .entry))) ⌝ }
-{
-    let got = libc::read(STDIN_FILENO, block);
-    if got < 0 {
-        return Got::Failed;
-    }
-    Got::Bytes(io::count(got, block))
-}
-
-// Reads on until the block is full or the input ends.
-fn fill(block: &mut [u8]) -> Got
-    ensures { λ r. ⌜ Within r (length (now (block .entry))) ⌝ }
-{
-    let mut done = 0;
-    while done < block.len() {
-        let got = read_some(&mut block[done..]);
-        match got {
-            Got::Failed => return Got::Failed,
-            Got::Bytes(n) => {
-                if n == 0 {
-                    return Got::Bytes(done);
-                }
-                done += n;
-            }
-        }
-    }
-    Got::Bytes(done)
-}
 
 fn print(out: &[u8], n: usize) -> bool
     requires { ⌜ n ≤ length (now out) ⌝ }

@@ -18,12 +18,12 @@ use Rattle.solutionset.specs.declared.Triple.{Triple}
 use Rattle.solutionset.specs.declared.TripleSet4.{TripleSet4}
 use Rattle.solutionset.specs.declared.TripleSlots4.{TripleSlots4}
 use Rattle.polynomial.specs.Const.{four}
-use Rattle.polynomial.specs.Convolution.{vec-self-convolve-2, vec-self-convolve-3, vec-convolve-3, cone-polynomials}
+use Rattle.convolution.specs.Convolution.{vec-self-convolve-2, vec-self-convolve-3, vec-convolve-3, cone-polynomials}
 use Rattle.quartic.specs.Quartic.{solve-quartic-roots}
 use Rattle.polynomial.specs.Roots.{roots, real-parts, real-quartic}
-use Rattle.polynomial.specs.declared.Cone.{Cone}
-use Rattle.polynomial.specs.declared.Vector2.{Vector2}
-use Rattle.polynomial.specs.declared.Vector5.{Vector5}
+use Rattle.convolution.specs.declared.Cone.{Cone}
+use Rattle.convolution.specs.declared.Vector2.{Vector2}
+use Rattle.convolution.specs.declared.Vector5.{Vector5}
 use Rattle.subproblems.specs.Columns.{columns}
 use Rattle.subproblems.specs.Subproblem1.{subproblem1}
 use Rattle.subproblem5.specs.Reduced.{reduced-solutionset}

@@ -12,9 +12,9 @@ use Rattle.solutionset.specs.PairSet4.{get-all, from-vec}
 use Rattle.solutionset.specs.declared.Pair.{Pair}
 use Rattle.solutionset.specs.declared.PairSet4.{PairSet4}
 use Rattle.qr.specs.Qr.{qr}
-use Rattle.polynomial.specs.Triangular.{solve-lower-triangular-system-2x2}
+use Rattle.convolution.specs.Triangular.{solve-lower-triangular-system-2x2}
 use Rattle.ellipse.specs.Ellipse.{transpose-2, solve-two-ellipse-numeric}
-use Rattle.polynomial.specs.declared.Vector2.{Vector2}
+use Rattle.convolution.specs.declared.Vector2.{Vector2}
 use Rattle.polynomial.specs.declared.Vector4.{Vector4}
 use Rattle.subproblems.specs.Columns.{columns, along}
 use Rattle.subproblem6.specs.declared.Plane.{Plane}

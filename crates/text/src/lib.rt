@@ -5,4 +5,5 @@ mod text;
 
 pub use lists::head;
 pub use lists::lines_of;
+pub use lists::shown;
 pub use text::Buffer;

@@ -6,10 +6,19 @@ use crate::text::put;
 use crate::text::spell;
 ghost use mathlib.Core.Path.{_≡_};
 ghost use mathlib.Core.List.{flatMap};
-ghost use Prim.Native.Nat.{_+_, _*_, _≤_, _<_};
+ghost use Prim.Native.Nat.{_+_, _*_, _≤_, _<_, min};
 ghost use lib.ListN.{length};
 ghost use Rattle.text.specs.Text.{Put};
 ghost use Rattle.text.specs.Lists.{field, head, angle, line-at, lines-of};
+
+// How many answers there are lines for.
+const SPACE: usize = 1024;
+
+pub fn shown(answers: usize) -> usize
+    ensures { λ r. ⌜ r ≡ min answers 1024 ⌝ }
+{
+    if answers < SPACE { answers } else { SPACE }
+}
 
 fn field(out: &mut Buffer, at: usize, name: &[u8], n: u64) -> usize
     requires { ⌜ at + length (now name) + 20 ≤ 106608 ⌝ }

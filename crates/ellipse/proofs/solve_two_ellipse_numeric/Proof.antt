@@ -15,11 +15,11 @@ use Rattle.quartic.specs.Quartic.{solve-quartic-roots}
 use Rattle.quartic.specs.RootCount.{few-real}
 use Rattle.ellipse.specs.Ellipse.{conic, quartic-in-y, point, solve-two-ellipse-numeric}
 use Rattle.polynomial.specs.declared.Conic.{Conic}
-use Rattle.polynomial.specs.declared.Matrix2.{Matrix2}
+use Rattle.convolution.specs.declared.Matrix2.{Matrix2}
 use Rattle.polynomial.specs.declared.Quartic.{Quartic}
 use Rattle.polynomial.specs.declared.Roots.{Roots}
-use Rattle.polynomial.specs.declared.Vector2.{Vector2}
-use Rattle.polynomial.specs.declared.Vector5.{Vector5}
+use Rattle.convolution.specs.declared.Vector2.{Vector2}
+use Rattle.convolution.specs.declared.Vector5.{Vector5}
 use Rattle.ellipse.proofs.PointSlots.{of-used}
 use Rattle.ellipse.proofs.solve_two_ellipse_numeric.Statement.{statement}
 use Rattle.ellipse.proofs.solve_two_ellipse_numeric.Tie as tie

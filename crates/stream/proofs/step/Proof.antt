@@ -5,9 +5,9 @@ use mathlib.Core.List.{List}
 use native.Mathlib.Omega.{arith}
 use borrow.Author.Needs.{needs}
 use lib.ListN.{length}
-use Rattle.stream.specs.Got.{Within}
-use Rattle.stream.specs.declared.Got.{Got}
-use Rattle.stream.specs.declared.Got.the-variants.{Bytes}
+use Rattle.input.specs.Got.{Within}
+use Rattle.input.specs.declared.Got.{Got}
+use Rattle.input.specs.declared.Got.the-variants.{Bytes}
 use Rattle.stream.proofs.step.Statement.{statement}
 use Rattle.stream.proofs.step.Tie as tie
 

@@ -3,7 +3,7 @@ use mathlib.Core.Path.{_≡_}
 use lib.Ieee.{Float}
 use Rattle.linear.specs.Vector.{norm, norm-squared, _-ᵛ_}
 use Rattle.vector.specs.declared.Vector3.{Vector3}
-use Rattle.polynomial.specs.declared.Vector2.{Vector2}
+use Rattle.convolution.specs.declared.Vector2.{Vector2}
 use Rattle.subproblem5.specs.Points.{side-of}
 use Rattle.subproblem5.specs.Subproblem5.{sc-of, v-of, side}
 use Rattle.subproblem5.specs.declared.Circle.{Circle}

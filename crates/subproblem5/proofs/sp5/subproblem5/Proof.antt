@@ -14,8 +14,8 @@ use Rattle.solutionset.specs.TripleSet4.{none}
 use Rattle.solutionset.specs.declared.Slots4.{Slots4}
 use Rattle.solutionset.specs.declared.Triple.{Triple}
 use Rattle.solutionset.specs.declared.TripleSet4.{TripleSet4}
-use Rattle.polynomial.specs.Convolution.{cone-polynomials}
-use Rattle.polynomial.specs.declared.Cone.{Cone}
+use Rattle.convolution.specs.Convolution.{cone-polynomials}
+use Rattle.convolution.specs.declared.Cone.{Cone}
 use Rattle.subproblem5.specs.Reduced.{reduced-solutionset}
 use Rattle.subproblem5.specs.Subproblem5.{circle, h-vec, at-root, in-sixteen, subproblem5}
 use Rattle.subproblem5.specs.declared.Candidates.{Candidates}

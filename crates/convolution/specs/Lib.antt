@@ -1,0 +1,2 @@
+pub mod Convolution
+pub mod Triangular
