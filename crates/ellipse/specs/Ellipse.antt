@@ -2,9 +2,9 @@
 use mathlib.Core.List.{map}
 use lib.Ieee.{Float, neg}
 use Rattle.float.specs.Num.{_⊕_, _⊖_, _⊗_, _⊘_, one, two}
-use Rattle.solutionset.specs.PairSet4.{from-vec}
-use Rattle.solutionset.specs.declared.Pair.{Pair}
-use Rattle.solutionset.specs.declared.PairSet4.{PairSet4}
+use Rattle.pairset.specs.PairSet4.{from-vec}
+use Rattle.pairset.specs.declared.Pair.{Pair}
+use Rattle.pairset.specs.declared.PairSet4.{PairSet4}
 use Rattle.polynomial.specs.Const.{epsilon}
 use Rattle.polynomial.specs.Roots.{roots, real-parts, real-quartic}
 use Rattle.quartic.specs.Quartic.{solve-quartic-roots}

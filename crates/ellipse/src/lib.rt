@@ -13,7 +13,7 @@ ghost use mathlib.Core.Path.{_≡_};
 ghost use Prim.Native.Nat.{_≤_};
 ghost use mathlib.Core.List.{map};
 ghost use lib.ListN.{take};
-ghost use Rattle.solutionset.specs.PairSet4.{from-vec};
+ghost use Rattle.pairset.specs.PairSet4.{from-vec};
 ghost use Rattle.ellipse.specs.Ellipse.{conic, z0, z1, z2, z3, z4, quartic-in-y, x-of, point, solve-two-ellipse-numeric};
 
 // The coefficients of the ellipse of xm and xn: of xn' xn, 2 xm' xn and xm' xm - 1.

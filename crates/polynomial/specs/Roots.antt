@@ -7,7 +7,7 @@ use Rattle.float.specs.Num.{nought}
 use Rattle.float.specs.Number.{abs}
 use Rattle.complex.specs.Complex.{scaleᶜ}
 use Rattle.complex.specs.declared.Complex.{Complex}
-use Rattle.solutionset.specs.Slots.{padded}
+use Rattle.pairset.specs.Slots.{padded}
 use Rattle.polynomial.specs.declared.Roots.{Roots}
 use Rattle.polynomial.specs.declared.Quartic.{Quartic}
 use Rattle.convolution.specs.declared.Vector5.{Vector5}

@@ -1,7 +1,3 @@
-pub mod Slots
 pub mod SolutionSet2
 pub mod SolutionSet4
-pub mod PairSet2
-pub mod PairSet4
-pub mod TripleSet4
 pub mod SinCosSet2

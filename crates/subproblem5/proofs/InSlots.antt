@@ -11,10 +11,10 @@ use Rattle.float.specs.Num.{_⊖_, nought}
 use Rattle.float.specs.Number.{abs}
 use Rattle.linear.specs.Vector.{scaleᵛ}
 use Rattle.vector.specs.declared.Vector3.{Vector3}
-use Rattle.solutionset.specs.Slots.{padded}
-use Rattle.solutionset.specs.TripleSet4.{none, slots}
-use Rattle.solutionset.specs.declared.Triple.{Triple}
-use Rattle.solutionset.specs.declared.TripleSlots4.{TripleSlots4}
+use Rattle.pairset.specs.Slots.{padded}
+use Rattle.tripleset.specs.TripleSet4.{none, slots}
+use Rattle.tripleset.specs.declared.Triple.{Triple}
+use Rattle.tripleset.specs.declared.TripleSlots4.{TripleSlots4}
 use Rattle.subproblem5.specs.Subproblem5.{epsilon, sq, sides, candidate, signed, at-root, pushed}
 use Rattle.subproblem5.specs.declared.Circle.{Circle}
 use Rattle.subproblem5.specs.declared.Side.{Side}

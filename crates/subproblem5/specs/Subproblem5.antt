@@ -12,11 +12,11 @@ use Rattle.float.specs.Root.{sqrt}
 use Rattle.linear.specs.Vector.{dot, norm, _+ᵛ_, _-ᵛ_, scaleᵛ}
 use Rattle.linear.specs.Matrix.{apply, outer}
 use Rattle.vector.specs.declared.Vector3.{Vector3}
-use Rattle.solutionset.specs.Slots.{padded}
-use Rattle.solutionset.specs.TripleSet4.{none}
-use Rattle.solutionset.specs.declared.Triple.{Triple}
-use Rattle.solutionset.specs.declared.TripleSet4.{TripleSet4}
-use Rattle.solutionset.specs.declared.TripleSlots4.{TripleSlots4}
+use Rattle.pairset.specs.Slots.{padded}
+use Rattle.tripleset.specs.TripleSet4.{none}
+use Rattle.tripleset.specs.declared.Triple.{Triple}
+use Rattle.tripleset.specs.declared.TripleSet4.{TripleSet4}
+use Rattle.tripleset.specs.declared.TripleSlots4.{TripleSlots4}
 use Rattle.polynomial.specs.Const.{four}
 use Rattle.convolution.specs.Convolution.{vec-self-convolve-2, vec-self-convolve-3, vec-convolve-3, cone-polynomials}
 use Rattle.quartic.specs.Quartic.{solve-quartic-roots}

@@ -6,9 +6,9 @@ mod sp5;
 use linear::Vector3;
 use polynomial::Vector2;
 pub use reduced::reduced_solutionset;
-use solutionset::Triple;
 pub use sp5::subproblem5;
 use subproblems::Columns;
+use tripleset::Triple;
 
 // A circle of subproblem 5: the turned vector is a times (sine, cosine), from p_s on. With a_k2 the
 // products of its columns and k2, norm_sq the square of their norm, and j_a_k2 the same turned.

@@ -8,9 +8,9 @@ use Rattle.float.specs.Num.{_⊕_, _⊖_, _⊗_}
 use Rattle.float.specs.Arctangent.{atan2}
 use Rattle.linear.specs.Vector.{dot}
 use Rattle.vector.specs.declared.Vector3.{Vector3}
-use Rattle.solutionset.specs.PairSet4.{get-all, from-vec}
-use Rattle.solutionset.specs.declared.Pair.{Pair}
-use Rattle.solutionset.specs.declared.PairSet4.{PairSet4}
+use Rattle.pairset.specs.PairSet4.{get-all, from-vec}
+use Rattle.pairset.specs.declared.Pair.{Pair}
+use Rattle.pairset.specs.declared.PairSet4.{PairSet4}
 use Rattle.qr.specs.Qr.{qr}
 use Rattle.convolution.specs.Triangular.{solve-lower-triangular-system-2x2}
 use Rattle.ellipse.specs.Ellipse.{transpose-2, solve-two-ellipse-numeric}

@@ -9,7 +9,7 @@ use lib.Dec.{ltb, T}
 use lib.Ieee.{Float, nan, inf, fin, up, down, below, lt, isNan}
 use lib.Ieee.Fits.{down-pos}
 use borrow.Author.Tests.{ltb-true, ltb-false, lt-ltb, le-ltb}
-use Rattle.solutionset.specs.declared.Triple.{Triple}
+use Rattle.tripleset.specs.declared.Triple.{Triple}
 use Rattle.triple_sort.specs.Sort.{number-above, then-by, triple-above, ordered-above}
 use Rattle.triple_sort.specs.Sorted.{Orders}
 use Rattle.triple_sort.specs.declared.Ordered.{Ordered}

@@ -1,5 +1,5 @@
 // The sort of subproblem 5's candidates.
-use solutionset::Triple;
+use tripleset::Triple;
 ghost use mathlib.Core.Path.{_≡_};
 ghost use Prim.Native.Nat.{_≤_};
 ghost use Rattle.triple_sort.specs.Sort.{number-above, triple-above, ordered-above, at-front, pass, sort};

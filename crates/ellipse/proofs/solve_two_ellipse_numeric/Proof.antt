@@ -5,9 +5,9 @@ use mathlib.Core.List.{map}
 use lib.Ieee.{Float}
 use lib.ListN.{take}
 use Rattle.float.specs.Num.{nought}
-use Rattle.solutionset.specs.PairSet4.{from-vec}
+use Rattle.pairset.specs.PairSet4.{from-vec}
 use Rattle.solutionset.specs.SolutionSet4.{slots}
-use Rattle.solutionset.specs.declared.PairSet4.{PairSet4}
+use Rattle.pairset.specs.declared.PairSet4.{PairSet4}
 use Rattle.solutionset.specs.declared.Slots4.{Slots4}
 use Rattle.polynomial.specs.Const.{epsilon}
 use Rattle.polynomial.specs.Roots.{roots, real-parts, real-quartic}

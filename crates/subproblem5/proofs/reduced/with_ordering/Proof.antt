@@ -8,7 +8,7 @@ use lib.Ieee.{Float, nan}
 use lib.ListN.{length, getD, set}
 use borrow.Author.Needs.{needs}
 use Rattle.float.specs.Num.{_⊖_, _⊗_, _⊘_, one, infinity}
-use Rattle.solutionset.specs.declared.Triple.{Triple}
+use Rattle.tripleset.specs.declared.Triple.{Triple}
 use Rattle.triple_sort.specs.Sort.{at-front}
 use Rattle.subproblem5.specs.Reduced.{with-ordering, with-gaps}
 use Rattle.triple_sort.specs.declared.Ordered.{Ordered}

@@ -3,7 +3,7 @@ use mathlib.Core.Path.{_≡_}
 use lib.Ieee.{Float}
 use Rattle.float.specs.Arctangent.{atan2}
 use Rattle.vector.specs.declared.Vector3.{Vector3}
-use Rattle.solutionset.specs.declared.Triple.{Triple}
+use Rattle.tripleset.specs.declared.Triple.{Triple}
 use Rattle.subproblems.specs.Subproblem1.{subproblem1-theta, subproblem1-within, subproblem1}
 use Rattle.subproblem5.specs.Points.{side-of}
 use Rattle.subproblem5.specs.Subproblem5.{angles}

@@ -6,8 +6,8 @@ use lib.Ieee.{Float, lt}
 use Rattle.float.specs.Num.{nought}
 use Rattle.linear.specs.Vector.{scaleᵛ}
 use Rattle.vector.specs.declared.Vector3.{Vector3}
-use Rattle.solutionset.specs.TripleSet4.{slots}
-use Rattle.solutionset.specs.declared.TripleSlots4.{TripleSlots4}
+use Rattle.tripleset.specs.TripleSet4.{slots}
+use Rattle.tripleset.specs.declared.TripleSlots4.{TripleSlots4}
 use Rattle.subproblem5.specs.Subproblem5.{sq, sides, signed, at-root}
 use Rattle.subproblem5.specs.declared.Circle.{Circle}
 use Rattle.subproblem5.specs.declared.Sides.{Sides}

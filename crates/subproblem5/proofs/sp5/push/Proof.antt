@@ -9,8 +9,8 @@ use Rattle.float.specs.Num.{_⊖_}
 use Rattle.float.specs.Number.{abs}
 use Rattle.float.specs.Root.{sqrt}
 use Rattle.vector.specs.declared.Vector3.{Vector3}
-use Rattle.solutionset.specs.declared.Triple.{Triple}
-use Rattle.solutionset.specs.declared.TripleSlots4.{TripleSlots4}
+use Rattle.tripleset.specs.declared.Triple.{Triple}
+use Rattle.tripleset.specs.declared.TripleSlots4.{TripleSlots4}
 use Rattle.subproblem5.specs.Points.{side-of}
 use Rattle.subproblem5.specs.Subproblem5.{epsilon, angles, candidate, pushed}
 use Rattle.subproblem5.specs.declared.Point.{Point}

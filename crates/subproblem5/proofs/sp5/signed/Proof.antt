@@ -5,9 +5,9 @@ use mathlib.Core.Path.{_≡_, _∙_, ap}
 use mathlib.Core.List.{List, [], _++_}
 use lib.ListN.{length, length-append}
 use Rattle.vector.specs.declared.Vector3.{Vector3}
-use Rattle.solutionset.specs.TripleSet4.{slots}
-use Rattle.solutionset.specs.declared.Triple.{Triple}
-use Rattle.solutionset.specs.declared.TripleSlots4.{TripleSlots4}
+use Rattle.tripleset.specs.TripleSet4.{slots}
+use Rattle.tripleset.specs.declared.Triple.{Triple}
+use Rattle.tripleset.specs.declared.TripleSlots4.{TripleSlots4}
 use Rattle.subproblem5.specs.Points.{side-of, sides-of}
 use Rattle.subproblem5.specs.Subproblem5.{candidate, signed, pushed}
 use Rattle.subproblem5.specs.declared.Points.{Points}

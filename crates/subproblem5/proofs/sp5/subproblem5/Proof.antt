@@ -9,11 +9,11 @@ use borrow.Author.Needs.{needs}
 use Rattle.float.specs.Num.{nought}
 use Rattle.vector.specs.declared.Vector3.{Vector3}
 use Rattle.solutionset.specs.SolutionSet4.{slots}
-use Rattle.solutionset.specs.Slots.{padded}
-use Rattle.solutionset.specs.TripleSet4.{none}
+use Rattle.pairset.specs.Slots.{padded}
+use Rattle.tripleset.specs.TripleSet4.{none}
 use Rattle.solutionset.specs.declared.Slots4.{Slots4}
-use Rattle.solutionset.specs.declared.Triple.{Triple}
-use Rattle.solutionset.specs.declared.TripleSet4.{TripleSet4}
+use Rattle.tripleset.specs.declared.Triple.{Triple}
+use Rattle.tripleset.specs.declared.TripleSet4.{TripleSet4}
 use Rattle.convolution.specs.Convolution.{cone-polynomials}
 use Rattle.convolution.specs.declared.Cone.{Cone}
 use Rattle.subproblem5.specs.Reduced.{reduced-solutionset}

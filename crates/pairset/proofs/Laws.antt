@@ -4,7 +4,7 @@ use mathlib.Core.Path.{_≡_, refl, sym, ap, _∙_}
 use mathlib.Core.List.{List, [], _∷_}
 use native.Mathlib.Omega.{arith}
 use lib.ListN.{length, getD, take, replicate, List·getD-append}
-use Rattle.solutionset.specs.Slots.{padded}
+use Rattle.pairset.specs.Slots.{padded}
 
 module _ {A : Type 0} where
   -- within a list, what stands past its end does not matter

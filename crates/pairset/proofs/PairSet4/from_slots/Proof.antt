@@ -3,14 +3,14 @@ use mathlib.Core.Path.{_≡_}
 use native.Mathlib.Omega.{arith}
 use borrow.Author.Needs.{needs}
 use lib.Ieee.{nan}
-use Rattle.solutionset.specs.TripleSet4.{from-vec}
-use Rattle.solutionset.specs.declared.Triple.{Triple}
-use Rattle.solutionset.proofs.Laws.{of-four}
-use Rattle.solutionset.proofs.TripleSet4.from_slots.Statement.{statement}
-use Rattle.solutionset.proofs.TripleSet4.from_slots.Tie as tie
+use Rattle.pairset.specs.PairSet4.{from-vec}
+use Rattle.pairset.specs.declared.Pair.{Pair}
+use Rattle.pairset.proofs.Laws.{of-four}
+use Rattle.pairset.proofs.PairSet4.from_slots.Statement.{statement}
+use Rattle.pairset.proofs.PairSet4.from_slots.Tie as tie
 
-abbrev unread : Triple
-unread = record { first = nan; second = nan; third = nan }
+abbrev unread : Pair
+unread = record { first = nan; second = nan }
 
 returns : tie.Need-returns
 returns c = search (of-four from-vec unread 0)

@@ -1,11 +1,11 @@
 -- Each arm is given that the set is its constructor at the answers.
 use mathlib.Core.Path.{sym, ap}
 use borrow.Author.Needs.{needs}
-use Rattle.solutionset.specs.PairSet2.{get-all, slots}
-use Rattle.solutionset.specs.declared.PairSet2.{PairSet2}
-use Rattle.solutionset.specs.declared.PairSlots2.{PairSlots2}
-use Rattle.solutionset.proofs.PairSet2.get_all.Statement.{statement}
-use Rattle.solutionset.proofs.PairSet2.get_all.Tie as tie
+use Rattle.pairset.specs.PairSet2.{get-all, slots}
+use Rattle.pairset.specs.declared.PairSet2.{PairSet2}
+use Rattle.pairset.specs.declared.PairSlots2.{PairSlots2}
+use Rattle.pairset.proofs.PairSet2.get_all.Statement.{statement}
+use Rattle.pairset.proofs.PairSet2.get_all.Tie as tie
 
 abbrev all : PairSet2 → PairSlots2
 all s = slots (get-all s)

@@ -1,11 +1,11 @@
 -- The slot with the number i holds the answer with that number.
 use mathlib.Core.Path.{ap}
 use native.Mathlib.Omega.{arith}
-use Rattle.solutionset.specs.PairSet4.{get-all, few, none}
-use Rattle.solutionset.specs.declared.PairSlots4.{PairSlots4}
-use Rattle.solutionset.proofs.Laws.{at-slot}
-use Rattle.solutionset.proofs.PairSet4.at.Statement.{statement}
-use Rattle.solutionset.proofs.PairSet4.at.Tie as tie
+use Rattle.pairset.specs.PairSet4.{get-all, few, none}
+use Rattle.pairset.specs.declared.PairSlots4.{PairSlots4}
+use Rattle.pairset.proofs.Laws.{at-slot}
+use Rattle.pairset.proofs.PairSet4.at.Statement.{statement}
+use Rattle.pairset.proofs.PairSet4.at.Tie as tie
 
 mul-result : tie.Need-mul-result
 mul-result c = omega (arith, few (c .before .before .args .self))

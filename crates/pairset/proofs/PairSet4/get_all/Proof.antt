@@ -1,13 +1,13 @@
 -- Each arm is given that the set is its constructor at the answers.
 use mathlib.Core.Path.{sym, ap}
 use borrow.Author.Needs.{needs}
-use Rattle.solutionset.specs.TripleSet4.{get-all, slots}
-use Rattle.solutionset.specs.declared.TripleSet4.{TripleSet4}
-use Rattle.solutionset.specs.declared.TripleSlots4.{TripleSlots4}
-use Rattle.solutionset.proofs.TripleSet4.get_all.Statement.{statement}
-use Rattle.solutionset.proofs.TripleSet4.get_all.Tie as tie
+use Rattle.pairset.specs.PairSet4.{get-all, slots}
+use Rattle.pairset.specs.declared.PairSet4.{PairSet4}
+use Rattle.pairset.specs.declared.PairSlots4.{PairSlots4}
+use Rattle.pairset.proofs.PairSet4.get_all.Statement.{statement}
+use Rattle.pairset.proofs.PairSet4.get_all.Tie as tie
 
-abbrev all : TripleSet4 → TripleSlots4
+abbrev all : PairSet4 → PairSlots4
 all s = slots (get-all s)
 
 returns : tie.Need-returns

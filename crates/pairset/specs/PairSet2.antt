@@ -3,12 +3,12 @@ use Prim.Native.Nat.{ℕ, _≤_}
 use mathlib.Core.List.{List, [], _∷_}
 use native.Mathlib.Omega.{arith}
 use lib.ListN.{length, getD}
-use Rattle.float.specs.Num.{nought}
-use Rattle.solutionset.specs.Slots.{padded}
-use Rattle.solutionset.specs.declared.Pair.{Pair}
-use Rattle.solutionset.specs.declared.PairSlots2.{PairSlots2}
-use Rattle.solutionset.specs.declared.PairSet2.{PairSet2}
-use Rattle.solutionset.specs.declared.PairSet2.the-variants.{Zero, One, Two}
+use Rattle.number.specs.Num.{nought}
+use Rattle.pairset.specs.Slots.{padded}
+use Rattle.pairset.specs.declared.Pair.{Pair}
+use Rattle.pairset.specs.declared.PairSlots2.{PairSlots2}
+use Rattle.pairset.specs.declared.PairSet2.{PairSet2}
+use Rattle.pairset.specs.declared.PairSet2.the-variants.{Zero, One, Two}
 
 abbrev pub get-all : PairSet2 → List Pair
 get-all Zero = []

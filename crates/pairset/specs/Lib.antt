@@ -1,0 +1,3 @@
+pub mod Slots
+pub mod PairSet2
+pub mod PairSet4
