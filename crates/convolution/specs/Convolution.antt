@@ -1,6 +1,6 @@
 -- subproblems/auxiliary.rs: the convolutions and cone_polynomials.
 use lib.Ieee.{neg}
-use Rattle.number.specs.Num.{_⊕_, _⊗_, _⊘_, one, two}
+use Rattle.scalar.specs.Num.{_⊕_, _⊗_, _⊘_, one, two}
 use Rattle.vector.specs.Vector.{dot, cross, norm-squared}
 use Rattle.vector.specs.declared.Vector3.{Vector3}
 use Rattle.convolution.specs.declared.Vector2.{Vector2}

@@ -1,5 +1,5 @@
 -- subproblems/auxiliary.rs: solve_lower_triangular_system_2x2.
-use Rattle.number.specs.Num.{_⊖_, _⊗_, _⊘_}
+use Rattle.scalar.specs.Num.{_⊖_, _⊗_, _⊘_}
 use Rattle.convolution.specs.declared.Matrix2.{Matrix2}
 use Rattle.convolution.specs.declared.Vector2.{Vector2}
 

@@ -10,7 +10,7 @@ use lib.Ieee.Fits.{up-pos, down-pos}
 use lib.Ieee.Scale.{round-same, finite}
 use borrow.Author.Tests.{lt-ltb, le-ltb}
 use Rattle.float.specs.Num.{_⊕_, _⊗_, nought, one}
-use Rattle.number.proofs.Own.{round-own, unique}
+use Rattle.scalar.proofs.Own.{round-own, unique}
 
 abbrev pub zeroed : Bool → Float
 zeroed s = fin s 0 (pos 0)

@@ -3,7 +3,7 @@ use Prim.Native.Nat.{ℕ, _≤_}
 use mathlib.Core.List.{List, [], _∷_}
 use native.Mathlib.Omega.{arith}
 use lib.ListN.{length, getD}
-use Rattle.number.specs.Num.{nought}
+use Rattle.scalar.specs.Num.{nought}
 use Rattle.pairset.specs.Slots.{padded}
 use Rattle.pairset.specs.declared.Pair.{Pair}
 use Rattle.pairset.specs.declared.PairSlots2.{PairSlots2}

@@ -1,6 +1,6 @@
 -- Vectors, as document 01 fixes nalgebra's operations on them. Every operation rounds.
 use lib.Ieee.{Float, neg}
-use Rattle.number.specs.Num.{_⊕_, _⊖_, _⊗_, _⊘_}
+use Rattle.scalar.specs.Num.{_⊕_, _⊖_, _⊗_, _⊘_}
 use Rattle.root.specs.Root.{sqrt}
 use Rattle.vector.specs.declared.Vector3.{Vector3}
 

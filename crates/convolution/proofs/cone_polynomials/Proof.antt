@@ -1,7 +1,7 @@
 -- The calls, one equation each.
 use mathlib.Core.Path.{_≡_}
 use lib.Ieee.{Float, neg}
-use Rattle.number.specs.Num.{_⊕_, _⊗_, _⊘_, one, two}
+use Rattle.scalar.specs.Num.{_⊕_, _⊗_, _⊘_, one, two}
 use Rattle.vector.specs.Vector.{dot, cross, norm-squared}
 use Rattle.vector.specs.declared.Vector3.{Vector3}
 use Rattle.convolution.specs.Convolution.{cone-polynomials}
