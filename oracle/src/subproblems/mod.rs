@@ -414,7 +414,7 @@ pub fn subproblem6<A: Arith>(
             - (h[3].transpose() * k[3] * k[3].transpose() * p[3])[0],
     );
 
-    let Qr { q, r } = qr(&a.transpose());
+    let Qr { q, r } = qr::<A>(&a.transpose());
 
     let (x_null_1, x_null_2): (Vector4, Vector4) = (q.column(2), q.column(3));
     let q = q.fixed_columns::<2>(0);
