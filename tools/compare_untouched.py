@@ -6,11 +6,15 @@
 COUNT poses (100,000) of each family 1 to 5, and 10,000 of family 6 at n = 200, which is the Rust's. KIND
 is reachable (poses from random angles) or another kind of `oracle generate`; the block numbers in the
 tables are those of `oracle generate KIND FAMILY SEED COUNT [200]`. The environment variable IK_PROGRAM
-names another program in the port's place. Prints tables; exit status 1 where the two panic or a program
-fails. Needs cargo, rt for target/bin/ik, and the untouched program (target/untouched/blocks).
+names another program in the port's place.
+
+It also holds the untouched Rust to the reference program with the machine's functions and nalgebra's
+QR (`oracle blocks --nalgebra`), bit for bit: exit status 1 where a line differs. Needs cargo, rt for
+target/bin/ik, and the untouched program (target/untouched/blocks).
 """
 
 import argparse
+import itertools
 import os
 import pathlib
 import subprocess
@@ -35,15 +39,25 @@ def into(path, words, given=None):
         subprocess.run(words, stdin=source, stdout=output, check=True)
 
 
+def differing(one, two):
+    """How many lines differ but for the evaluations, which the untouched Rust does not count."""
+    with open(one) as these, open(two) as those:
+        pairs = itertools.zip_longest(these, those, fillvalue="")
+        return sum(a.partition(" evals ")[0] != b.partition(" evals ")[0] for a, b in pairs)
+
+
 def compared(oracle, port, untouched, request):
-    """The lines of `oracle beside`, the port first, as a list of words each."""
+    """The lines of `oracle beside`, the port first, as a list of words each, and one more for the lines
+    that differ from the reference program with nalgebra's QR."""
     with tempfile.TemporaryDirectory() as folder:
-        asked, one, two = (os.path.join(folder, name) for name in ("blocks", "port", "untouched"))
+        asked, one, two, same = (os.path.join(folder, name) for name in ("blocks", "port", "untouched", "same"))
         into(asked, [oracle, "generate", *request])
         into(one, port, asked)
         into(two, [untouched], asked)
+        into(same, [oracle, "blocks", "--nalgebra"], asked)
         done = subprocess.run([oracle, "beside", *request, one, two], capture_output=True, text=True, check=True)
-    return [line.split() for line in done.stdout.splitlines()]
+        bits = ["bits", "differing", str(differing(same, two))]
+    return [line.split() for line in done.stdout.splitlines()] + [bits]
 
 
 def fields(lines, *head):
@@ -73,11 +87,12 @@ def head(*cells):
 
 def print_lists(families):
     head("family", "poses", "panics", "another length", "same length, other flags", "same by place", "same as sets",
-         "unflagged the same as sets")
+         "unflagged the same as sets", "lines other than `--nalgebra`'s")
     for family, lines in families.items():
         all_ = fields(lines)
         names = ("other-length", "other-flags", "same-by-place", "same-as-sets", "same-unflagged")
-        row(family, number(all_["poses"]), all_["panics"][1], *(number(all_[name]) for name in names))
+        row(family, number(all_["poses"]), all_["panics"][1], *(number(all_[name]) for name in names),
+            fields(lines, "bits")["differing"])
 
 
 def print_largest(families):
@@ -127,7 +142,7 @@ def main():
     print(f"{given.kind} poses, seed {given.seed}")
     for table in (print_lists, print_largest, print_alone, print_own):
         table(families)
-    sys.exit(any(panics != "0" for lines in families.values() for panics in fields(lines)["panics"]))
+    sys.exit(any(fields(lines, "bits")["differing"] != "0" for lines in families.values()))
 
 
 if __name__ == "__main__":

@@ -5,15 +5,14 @@
 //! compared.
 
 use crate::complex::Complex;
+use crate::linalg::{self, Matrix4x2, Qr};
+use crate::nalgebra;
 use crate::nearest;
 use std::f64::consts::{FRAC_PI_2, FRAC_PI_4, PI, TAU};
 
 /// The functions that other crates or the machine would decide. Those that IEEE 754 decides
-/// (+ - * / and the square root) and the exact `%` are the same in both and are no part of it.
+/// (+ - * / and the square root) and the exact `%` are the same in all and are no part of it.
 pub trait Arith {
-    /// Where R's second diagonal entry is below zero, whether QR negates the null vectors too.
-    const TURNS_NULL_VECTORS: bool = false;
-
     fn sin(x: f64) -> f64;
     fn cos(x: f64) -> f64;
     fn sin_cos(x: f64) -> (f64, f64);
@@ -22,6 +21,10 @@ pub trait Arith {
     fn modulus(z: Complex) -> f64;
     fn complex_sqrt(z: Complex) -> Complex;
     fn complex_cbrt(z: Complex) -> Complex;
+
+    fn qr(a: &Matrix4x2) -> Qr {
+        linalg::qr(a)
+    }
 }
 
 /// Document 01's rules.
@@ -30,9 +33,7 @@ pub struct Rules;
 /// The standard library's functions, and the complex roots as num-complex takes them.
 pub struct Machine;
 
-/// The machine's functions, and the sign that nalgebra's q_tr_mul gives the null vectors: with the
-/// sign of a diagonal entry it multiplies all rows from that one on. The first entry's sign comes in
-/// twice, by the column that the second is computed from, and so leaves them as they are.
+/// The machine's functions, and nalgebra's QR.
 pub struct Nalgebra;
 
 /// (-1)^j / (2j+1)! for j = 0 to 8. Every factorial here is an f64 exactly, so each
@@ -280,8 +281,6 @@ impl Arith for Machine {
 }
 
 impl Arith for Nalgebra {
-    const TURNS_NULL_VECTORS: bool = true;
-
     #[inline]
     fn sin(x: f64) -> f64 {
         Machine::sin(x)
@@ -320,6 +319,10 @@ impl Arith for Nalgebra {
     #[inline]
     fn complex_cbrt(z: Complex) -> Complex {
         Machine::complex_cbrt(z)
+    }
+
+    fn qr(a: &Matrix4x2) -> Qr {
+        nalgebra::qr(a)
     }
 }
 

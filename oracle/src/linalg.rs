@@ -4,7 +4,6 @@
 //! As in nalgebra a vector is a matrix of one column, the storage goes by columns, and a single
 //! index counts along them.
 
-use crate::arith::Arith;
 use std::array::from_fn;
 use std::ops::{Add, AddAssign, Div, Index, IndexMut, Mul, MulAssign, Neg, Sub};
 
@@ -374,7 +373,7 @@ pub struct Qr {
 }
 
 /// Document 01's Householder QR, column by column on the part from the diagonal down.
-pub fn qr<A: Arith>(a: &Matrix4x2) -> Qr {
+pub fn qr(a: &Matrix4x2) -> Qr {
     let mut r = *a;
     let mut q_transposed = Matrix4::identity();
 
@@ -392,15 +391,8 @@ pub fn qr<A: Arith>(a: &Matrix4x2) -> Qr {
             for j in 0..2 {
                 r[(diagonal, j)] = -r[(diagonal, j)];
             }
-            let last = if A::TURNS_NULL_VECTORS && diagonal == 1 {
-                3
-            } else {
-                diagonal
-            };
-            for j in diagonal..=last {
-                for i in 0..4 {
-                    q[(i, j)] = -q[(i, j)];
-                }
+            for i in 0..4 {
+                q[(i, diagonal)] = -q[(i, diagonal)];
             }
         }
     }
@@ -454,7 +446,6 @@ fn dot(a: &[f64], b: &[f64]) -> f64 {
 #[cfg(test)]
 mod tests {
     use super::*;
-    use crate::arith::{Nalgebra, Rules};
 
     #[test]
     fn sums_start_with_their_first_term() {
@@ -489,7 +480,7 @@ mod tests {
             Vector4::new(-1.0, 2.0, 0.5, 3.0),
             Vector4::new(4.0, -1.0, 2.0, 0.25),
         ]);
-        let Qr { q, r } = qr::<Rules>(&a);
+        let Qr { q, r } = qr(&a);
         let back = q.fixed_columns::<2>(0) * Matrix2::new(r[(0, 0)], r[(0, 1)], 0.0, r[(1, 1)]);
         for n in 0..8 {
             assert!((back[n] - a[n]).abs() < 1e-14);
@@ -500,30 +491,13 @@ mod tests {
     }
 
     #[test]
-    fn null_vectors_turn_with_the_second_diagonal_entry() {
-        for (leading, turned) in [(1.0, true), (-1.0, false)] {
-            // The first column leaves the second as it is, whose entry gets the other sign.
-            let a = Matrix4x2::from_columns(&[
-                Vector4::new(2.0, 0.0, 0.0, 0.0),
-                Vector4::new(0.0, leading, 1.0, 1.0),
-            ]);
-            let (one, other) = (qr::<Rules>(&a), qr::<Nalgebra>(&a));
-            assert_eq!(one.r, other.r);
-            for j in 0..4 {
-                let sign = if turned && j >= 2 { -1.0 } else { 1.0 };
-                assert_eq!(other.q.column(j), one.q.column(j) * sign, "column {j}");
-            }
-        }
-    }
-
-    #[test]
     fn qr_skips_a_zero_part_only() {
         let zero = Vector4::new(-0.0, 0.0, 0.0, -0.0);
-        let Qr { q, r } = qr::<Rules>(&Matrix4x2::from_columns(&[zero, zero]));
+        let Qr { q, r } = qr(&Matrix4x2::from_columns(&[zero, zero]));
         assert_eq!(q, Matrix4::identity());
         assert_eq!(r[(0, 0)].to_bits(), (-0.0_f64).to_bits());
         // Squares that underflow do not make a part zero.
         let tiny = Vector4::new(1e-200, 0.0, 0.0, 0.0);
-        assert!(qr::<Rules>(&Matrix4x2::from_columns(&[tiny, zero])).r[(0, 0)].is_nan());
+        assert!(qr(&Matrix4x2::from_columns(&[tiny, zero])).r[(0, 0)].is_nan());
     }
 }

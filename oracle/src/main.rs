@@ -19,6 +19,7 @@ mod inverse_kinematics;
 mod known_results;
 mod linalg;
 mod missed;
+mod nalgebra;
 mod nearest;
 mod odd;
 mod recover;
@@ -79,7 +80,7 @@ usage: oracle COMMAND
                                          the group family is families
 
 Option --machine takes the machine's sine, cosine, arctangent and roots instead of document 01's,
-option --nalgebra the sign of subproblem 6's null vectors too that nalgebra gives them.
+option --nalgebra these and nalgebra's QR.
 ";
 
 /// The command line apart from its options.

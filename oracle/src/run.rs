@@ -279,7 +279,7 @@ fn run_polynomial<A: Arith>(id: u64, args: &mut Args, sink: &mut impl Sink) {
         }
         8 => {
             let columns: [Vector4; 2] = std::array::from_fn(|_| args.column());
-            let Qr { q, r } = qr::<A>(&Matrix4x2::from_columns(&columns));
+            let Qr { q, r } = qr(&Matrix4x2::from_columns(&columns));
             sink.number(r[(0, 0)]);
             sink.number(r[(0, 1)]);
             sink.number(r[(1, 1)]);

@@ -254,7 +254,7 @@ fn machine_polynomial(id: u64, a: &[f64; 40], out: &mut [u64; 23]) {
             entries(out, 0, &x);
         }
         8 => {
-            let Qr { q, r } = qr::<Machine>(&Matrix4x2::from_columns(&[vector4(a, 0), vector4(a, 4)]));
+            let Qr { q, r } = qr(&Matrix4x2::from_columns(&[vector4(a, 0), vector4(a, 4)]));
             put(out, 0, r[(0, 0)]);
             put(out, 1, r[(0, 1)]);
             put(out, 2, r[(1, 1)]);
