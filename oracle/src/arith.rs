@@ -5,14 +5,15 @@
 //! compared.
 
 use crate::complex::Complex;
-use crate::linalg::{self, Matrix4x2, Qr};
-use crate::nalgebra;
 use crate::nearest;
 use std::f64::consts::{FRAC_PI_2, FRAC_PI_4, PI, TAU};
 
 /// The functions that other crates or the machine would decide. Those that IEEE 754 decides
 /// (+ - * / and the square root) and the exact `%` are the same in all and are no part of it.
 pub trait Arith {
+    /// Whether subproblem 6 takes nalgebra's QR in place of document 01's.
+    const NALGEBRA_QR: bool = false;
+
     fn sin(x: f64) -> f64;
     fn cos(x: f64) -> f64;
     fn sin_cos(x: f64) -> (f64, f64);
@@ -21,10 +22,6 @@ pub trait Arith {
     fn modulus(z: Complex) -> f64;
     fn complex_sqrt(z: Complex) -> Complex;
     fn complex_cbrt(z: Complex) -> Complex;
-
-    fn qr(a: &Matrix4x2) -> Qr {
-        linalg::qr(a)
-    }
 }
 
 /// Document 01's rules.
@@ -281,6 +278,8 @@ impl Arith for Machine {
 }
 
 impl Arith for Nalgebra {
+    const NALGEBRA_QR: bool = true;
+
     #[inline]
     fn sin(x: f64) -> f64 {
         Machine::sin(x)
@@ -319,10 +318,6 @@ impl Arith for Nalgebra {
     #[inline]
     fn complex_cbrt(z: Complex) -> Complex {
         Machine::complex_cbrt(z)
-    }
-
-    fn qr(a: &Matrix4x2) -> Qr {
-        nalgebra::qr(a)
     }
 }
 

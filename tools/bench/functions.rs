@@ -34,6 +34,9 @@ mod inverse_kinematics;
 #[path = "../../oracle/src/linalg.rs"]
 mod linalg;
 #[allow(dead_code)]
+#[path = "../../oracle/src/nalgebra.rs"]
+mod nalgebra;
+#[allow(dead_code)]
 #[path = "../../oracle/src/nearest.rs"]
 mod nearest;
 #[allow(dead_code)]
