@@ -47,8 +47,8 @@ fetch() {
     mv "$folder/unpacked" "$folder/root"
 }
 
-# Beside the published files the crate has two modules of test fixtures, which are empty but for a
-# constant that only tests use.
+# Beside the published files the crate has the modules of test fixtures that they name, empty but for
+# a constant that no solver reads.
 lay_out() {
     local to=$folder/crate file
     mkdir -p "$to/src/subproblems" "$to/src/inverse_kinematics" "$to/.cargo"
