@@ -6,8 +6,8 @@ pub mod solutionset;
 pub mod subproblems;
 
 use inverse_kinematics::{
-    auxiliary::Kinematics, spherical, spherical_two_intersecting, spherical_two_parallel, three_parallel,
-    three_parallel_two_intersecting, two_parallel,
+    auxiliary::Kinematics, spherical, spherical_two_intersecting, spherical_two_parallel,
+    three_parallel, three_parallel_two_intersecting, two_parallel,
 };
 use nalgebra::{Matrix3, Vector3, Vector6};
 

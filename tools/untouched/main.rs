@@ -40,7 +40,11 @@ fn print_answers(place: usize, block: &[u8], output: &mut impl Write) -> io::Res
     let Ok((angles, flags)) = catch_unwind(|| untouched::answers(family, &arm, &pose)) else {
         return writeln!(output, "block {place} panic");
     };
-    writeln!(output, "block {place} refusal 0 answers {} evals 0", angles.len())?;
+    writeln!(
+        output,
+        "block {place} refusal 0 answers {} evals 0",
+        angles.len()
+    )?;
     for (answer, flag) in angles.iter().zip(flags) {
         for angle in answer {
             write!(output, "{:016x} ", printed(angle.to_bits()))?;
