@@ -2,13 +2,13 @@
 use mathlib.Core.Path.{_≡_}
 use mathlib.Core.Bool.{true, false}
 use lib.Ieee.{Float, binary64, ofBits, lt, le}
-use Rattle.float.specs.Num.{_⊖_}
+use Rattle.float.specs.Num.{_⊖_, millionth}
 use Rattle.float.specs.Number.{abs}
 use Rattle.float.specs.Root.{sqrt}
 
 -- 1e-6, which subproblem1's flag and subproblem5's distance are held to
 abbrev pub tolerance : Float
-tolerance = ofBits binary64 0x3eb0_c6f7_a0b5_ed8d
+tolerance = millionth
 
 -- 2^-20, which is below 1e-6, and 3 × 2^-21, which is above it
 abbrev pub below-tolerance : Float

@@ -3,9 +3,9 @@
 use Prim.Native.Nat.{ℕ, _+_}
 use mathlib.Core.Bool.{cond}
 use mathlib.Core.List.{List, [], _∷_, _++_, flatMap}
-use lib.Ieee.{Float, binary64, ofBits, lt, neg}
+use lib.Ieee.{Float, lt, neg}
 use lib.ListN.{length, set}
-use Rattle.float.specs.Num.{_⊕_, _⊖_, _⊗_, _⊘_, nought, one}
+use Rattle.float.specs.Num.{_⊕_, _⊖_, _⊗_, _⊘_, nought, one, millionth}
 use Rattle.float.specs.Number.{abs}
 use Rattle.float.specs.Arctangent.{atan2}
 use Rattle.float.specs.Root.{sqrt}
@@ -35,7 +35,7 @@ use Rattle.subproblem5.specs.declared.Sides.{Sides}
 
 -- EPSILON, and the 1e-6 of the test on norms
 abbrev pub epsilon : Float
-epsilon = ofBits binary64 0x3eb0_c6f7_a0b5_ed8d
+epsilon = millionth
 
 -- ---- what does not depend on h. The first circle is of p0, p1 and k1, the second of p2, p3 and k3
 
