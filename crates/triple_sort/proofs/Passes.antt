@@ -7,7 +7,7 @@ use mathlib.Core.List.{List, [], _∷_, _++_, map}
 use lib.ListN.{length, getD, set, take, drop, length-append, length-take, length-drop, length-map}
 use lib.Seq.{length-take-le, take-at, drop-at}
 use Rattle.triple_sort.specs.Sort.{at-front, carry, pass, passes, sort}
-use Rattle.triple_sort.proofs.NumberOrder.{by-test}
+use Rattle.scalar.proofs.Order.{by-test}
 
 module _ {A : Type 0} (above : A → A → Bool) (none : A) where
   -- the members at i and after it, exchanged if the earlier is above the later
@@ -63,7 +63,7 @@ module _ {A : Type 0} (above : A → A → Bool) where
   length-passes zero l = refl
   length-passes (suc k) l = length-passes k (pass above l) ∙ length-pass l
 
-  pub length-sort : (l : List A) → length (sort above l) ≡ length l
+  pub length-sort : (l : List A) → length (sort above l .result) ≡ length l
   unfolding sort
   length-sort l = length-passes (length l - 1) l
 
@@ -104,6 +104,6 @@ module _ {A B : Type 0} (f : B → A) (above : A → A → Bool) (under : B → 
   passes-map zero l = refl
   passes-map (suc k) l = rw (pass-map l) (passes-map k (pass under l))
 
-  pub sort-map : (l : List B) → sort above (map f l) ≡ map f (sort under l)
+  pub sort-map : (l : List B) → sort above (map f l) .result ≡ map f (sort under l .result)
   unfolding sort
   sort-map l = rw (length-map l f) (passes-map (length l - 1) l)

@@ -30,6 +30,10 @@ ordered-above a b = then-by (a .ordering) (b .ordering) (triple-above (a .soluti
 abbrev pub at-front : {A : Type 0} → ℕ → (List A → List A) → List A → List A
 at-front n f l = f (take n l) ++ drop n l
 
+-- what a sort gives
+pub record SortOf (A : Type 0) : Type 0 where
+  pub result : List A
+
 module _ {A : Type 0} (above : A → A → Bool) where
   -- a pass goes over neighbours from the first to the last, and exchanges two exactly if the earlier compares above the later:
   -- so it carries on the higher of a, which it has come with, and the next
@@ -48,6 +52,9 @@ module _ {A : Type 0} (above : A → A → Bool) where
   passes (suc k) l = passes k (pass l)
 
   -- one pass fewer than there are members
-  unfoldable pub sort : List A → List A
+  unfoldable pub sort : List A → SortOf A
   unfolding passes
-  sort l = passes (length l - 1) l
+  sort l = record { result = passes (length l - 1) l }
+
+  abbrev pub in-order : List A → List A
+  in-order l = sort l .result

@@ -1,4 +1,4 @@
--- The invariant: what is left of the pass gives what the whole pass gives.
+-- The invariant: what is left of the pass gives what all of it gives.
 use Prim.Native.Nat.{ℕ, suc, _+_, _-_, _≤_, _<_}
 use native.Mathlib.Omega.{arith}
 use mathlib.Core.Path.{_≡_, refl, _∙_}
@@ -53,42 +53,6 @@ end n j t t₀ f l h inv =
 loop-holds : tie.Need-loop-holds Inv-loop μ-loop
 loop-holds c = (omega arith, refl)
 
-sub-a : tie.Need-sub-a Inv-loop μ-loop
-sub-a c = search needs
-
-mul-a : tie.Need-mul-a Inv-loop μ-loop
-mul-a c = search needs
-
-array-copy-out-a : tie.Need-array-copy-out-a Inv-loop μ-loop
-array-copy-out-a c = search needs
-
-mul-b : tie.Need-mul-b Inv-loop μ-loop
-mul-b c = search needs
-
-array-copy-out-b : tie.Need-array-copy-out-b Inv-loop μ-loop
-array-copy-out-b c = search needs
-
-sub-t : tie.Need-sub-t Inv-loop μ-loop
-sub-t c = search needs
-
-mul-t : tie.Need-mul-t Inv-loop μ-loop
-mul-t c = search needs
-
-array-set-from-t : tie.Need-array-set-from-t Inv-loop μ-loop
-array-set-from-t c = search needs
-
-mul-t-2 : tie.Need-mul-t-2 Inv-loop μ-loop
-mul-t-2 c = search needs
-
-array-set-from-t-2 : tie.Need-array-set-from-t-2 Inv-loop μ-loop
-array-set-from-t-2 c = search needs
-
-add-j : tie.Need-add-j Inv-loop μ-loop
-add-j c = search needs
-
-loop-less : tie.Need-loop-less Inv-loop μ-loop
-loop-less c = search needs
-
 loop-again : tie.Need-loop-again Inv-loop μ-loop
 loop-again c =
     let p1 = c .before in
@@ -110,18 +74,18 @@ pass-spec =
     Inv-loop
     μ-loop
     loop-holds
-    sub-a
-    mul-a
-    array-copy-out-a
-    mul-b
-    array-copy-out-b
+    (λ c. search needs)
+    (λ c. search needs)
+    (λ c. search needs)
+    (λ c. search needs)
+    (λ c. search needs)
     (λ _ _. tt)
-    sub-t
-    mul-t
-    array-set-from-t
-    mul-t-2
-    array-set-from-t-2
-    add-j
-    loop-less
+    (λ c. search needs)
+    (λ c. search needs)
+    (λ c. search needs)
+    (λ c. search needs)
+    (λ c. search needs)
+    (λ c. search needs)
+    (λ c. search needs)
     loop-again
     returns)

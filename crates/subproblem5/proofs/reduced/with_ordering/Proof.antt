@@ -10,7 +10,8 @@ use borrow.Author.Needs.{needs}
 use Rattle.float.specs.Num.{_⊖_, _⊗_, _⊘_, one, infinity}
 use Rattle.tripleset.specs.declared.Triple.{Triple}
 use Rattle.triple_sort.specs.Sort.{at-front}
-use Rattle.subproblem5.specs.Reduced.{with-ordering, with-gaps}
+use Rattle.subproblem5.specs.Port.{with-gaps}
+use Rattle.subproblem5.specs.Reduced.{with-ordering}
 use Rattle.triple_sort.specs.declared.Ordered.{Ordered}
 use Rattle.subproblem5.proofs.reduced.with_ordering.Statement.{statement}
 use Rattle.subproblem5.proofs.reduced.with_ordering.Tie as tie
@@ -70,24 +71,6 @@ end n i last t t₀ f l h inv =
 loop-holds : tie.Need-loop-holds Inv-loop μ-loop
 loop-holds c = (omega arith, search begin)
 
-mul-o : tie.Need-mul-o Inv-loop μ-loop
-mul-o c = search needs
-
-array-copy-out-o : tie.Need-array-copy-out-o Inv-loop μ-loop
-array-copy-out-o c = search needs
-
-mul-t : tie.Need-mul-t Inv-loop μ-loop
-mul-t c = search needs
-
-array-set-from-t : tie.Need-array-set-from-t Inv-loop μ-loop
-array-set-from-t c = search needs
-
-add-i : tie.Need-add-i Inv-loop μ-loop
-add-i c = search needs
-
-loop-less : tie.Need-loop-less Inv-loop μ-loop
-loop-less c = search needs
-
 loop-again : tie.Need-loop-again Inv-loop μ-loop
 loop-again c = (omega arith, search again)
 
@@ -102,11 +85,11 @@ with-ordering-spec =
     μ-loop
     (λ _ _. tt)
     loop-holds
-    mul-o
-    array-copy-out-o
-    mul-t
-    array-set-from-t
-    add-i
-    loop-less
+    (λ c. search needs)
+    (λ c. search needs)
+    (λ c. search needs)
+    (λ c. search needs)
+    (λ c. search needs)
+    (λ c. search needs)
     loop-again
     returns)
