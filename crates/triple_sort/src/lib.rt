@@ -2,7 +2,8 @@
 use tripleset::Triple;
 ghost use mathlib.Core.Path.{_≡_};
 ghost use Prim.Native.Nat.{_≤_};
-ghost use Rattle.triple_sort.specs.Sort.{number-above, triple-above, ordered-above, at-front, pass, in-order};
+ghost use Rattle.triple_sort.specs.Port.{at-front, in-order};
+ghost use Rattle.triple_sort.specs.Sort.{number-above, triple-above, ordered-above, pass};
 
 // A candidate of subproblem 5 with the number that decides whether it is kept.
 pub struct Ordered {

@@ -8,17 +8,18 @@ use mathlib.Core.Logic.{⊎-elim}
 use lib.Ieee.{nan}
 use lib.ListN.{length, getD, set}
 use borrow.Author.Needs.{needs}
-use Rattle.triple_sort.specs.Sort.{ordered-above, at-front, pass}
+use Rattle.triple_sort.specs.Port.{at-front}
+use Rattle.triple_sort.specs.Sort.{ordered-above, pass}
 use Rattle.triple_sort.specs.declared.Ordered.{Ordered}
 use Rattle.triple_sort.proofs.Passes.{exchange-at, pass-from, pass-is}
 use Rattle.triple_sort.proofs.pass.Statement.{statement}
 use Rattle.triple_sort.proofs.pass.Tie as tie
 
-abbrev none : Ordered
-none = record { ordering = nan; solution = record { first = nan; second = nan; third = nan } }
+abbrev outside : Ordered
+outside = record { ordering = nan; solution = record { first = nan; second = nan; third = nan } }
 
 abbrev from : ℕ → ℕ → List Ordered → List Ordered
-from k i t = pass-from ordered-above none k i t
+from k i t = pass-from ordered-above outside k i t
 
 abbrev Inv-loop : tie.InvT-loop
 Inv-loop n t₀ j₀ t j = (1 ≤ j) × (from (n - j) (j - 1) t ≡ from (n - 1) 0 t₀)
@@ -27,7 +28,7 @@ abbrev μ-loop : tie.MeasureT-loop
 μ-loop n t₀ j₀ t j = n - j
 
 module _ (n j : ℕ) (t t₀ : List Ordered) (s : 1 ≤ j) (h : j < n) (inv : from (n - j) (j - 1) t ≡ from (n - 1) 0 t₀) where
-  next : {u : List Ordered} → u ≡ exchange-at ordered-above none (j - 1) t → from (n - (j + 1)) (j + 1 - 1) u ≡ from (n - 1) 0 t₀
+  next : {u : List Ordered} → u ≡ exchange-at ordered-above outside (j - 1) t → from (n - (j + 1)) (j + 1 - 1) u ≡ from (n - 1) 0 t₀
   unfolding pass-from
   next e =
       let more : n - j ≡ suc (n - (j + 1)) = omega arith in
@@ -35,8 +36,8 @@ module _ (n j : ℕ) (t t₀ : List Ordered) (s : 1 ≤ j) (h : j < n) (inv : fr
       let i = rw more at inv in
       rw (on, e) i
 
-  module _ {r : Bool} (e : r ≡ ordered-above (getD t (j - 1) none) (getD t j none)) where
-    swapped : {u : List Ordered} → r ≡ true → u ≡ set (set t (j - 1) (getD t j none)) j (getD t (j - 1) none) → from (n - (j + 1)) (j + 1 - 1) u ≡ from (n - 1) 0 t₀
+  module _ {r : Bool} (e : r ≡ ordered-above (getD t (j - 1) outside) (getD t j outside)) where
+    swapped : {u : List Ordered} → r ≡ true → u ≡ set (set t (j - 1) (getD t j outside)) j (getD t (j - 1) outside) → from (n - (j + 1)) (j + 1 - 1) u ≡ from (n - 1) 0 t₀
     unfolding exchange-at
     swapped x d = let here : suc (j - 1) ≡ j = omega arith in next (rw here cc)
 
@@ -48,7 +49,7 @@ end : (n j : ℕ) (t t₀ : List Ordered) → n ≤ 16 → length t₀ ≡ 16 �
 unfolding pass-from
 end n j t t₀ f l h inv =
     let over : n - j ≡ 0 = omega arith in
-    (rw over at inv) ∙ pass-is ordered-above none n t₀ (omega arith)
+    (rw over at inv) ∙ pass-is ordered-above outside n t₀ (omega arith)
 
 loop-holds : tie.Need-loop-holds Inv-loop μ-loop
 loop-holds c = (omega arith, refl)

@@ -6,7 +6,8 @@ use mathlib.Core.List.{List}
 use lib.ListN.{length, take, drop, take-append-drop}
 use lib.Seq.{length-take-le}
 use borrow.Author.Needs.{needs}
-use Rattle.triple_sort.specs.Sort.{ordered-above, at-front, pass, passes, sort, in-order}
+use Rattle.triple_sort.specs.Port.{at-front, in-order}
+use Rattle.triple_sort.specs.Sort.{ordered-above, pass, passes, sort}
 use Rattle.triple_sort.specs.declared.Ordered.{Ordered}
 use Rattle.triple_sort.proofs.Passes.{length-pass, length-front-of, pass-more}
 use Rattle.triple_sort.proofs.sort.Statement.{statement}

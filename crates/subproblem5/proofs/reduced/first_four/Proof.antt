@@ -14,14 +14,14 @@ use Rattle.subproblem5.proofs.InSlots.{map-take, first-four}
 use Rattle.subproblem5.proofs.reduced.first_four.Statement.{statement}
 use Rattle.subproblem5.proofs.reduced.first_four.Tie as tie
 
-abbrev none : Ordered
-none = record { ordering = nan; solution = record { first = nan; second = nan; third = nan } }
+abbrev outside : Ordered
+outside = record { ordering = nan; solution = record { first = nan; second = nan; third = nan } }
 
 met : (t : List Ordered)
     → length t ≡ 16
-    → Four (getD t 0 none .solution) (getD t 1 none .solution) (getD t 2 none .solution) (getD t 3 none .solution)
+    → Four (getD t 0 outside .solution) (getD t 1 outside .solution) (getD t 2 outside .solution) (getD t 3 outside .solution)
     ≡ from-vec (take 4 (map solution-of t))
-met t h = rw (← map-take solution-of 4 t, first-four none t h)
+met t h = rw (← map-take solution-of 4 t, first-four outside t h)
 
 returns : tie.Need-returns
 returns c = search met

@@ -14,7 +14,8 @@ use Rattle.float.specs.Num.{infinity}
 use Rattle.tripleset.specs.TripleSet4.{from-vec}
 use Rattle.tripleset.specs.declared.Triple.{Triple}
 use Rattle.tripleset.specs.declared.TripleSet4.{TripleSet4}
-use Rattle.triple_sort.specs.Sort.{number-above, triple-above, ordered-above, at-front, in-order}
+use Rattle.triple_sort.specs.Port.{at-front, in-order}
+use Rattle.triple_sort.specs.Sort.{number-above, triple-above, ordered-above}
 use Rattle.subproblem5.specs.Port.{unordered, with-gaps}
 use Rattle.subproblem5.specs.Reduced.{with-ordering, solution-of, reduced-solutionset}
 use Rattle.triple_sort.specs.declared.Ordered.{Ordered}
@@ -23,19 +24,19 @@ use Rattle.subproblem5.proofs.InSlots.{map-take, first-four}
 use Rattle.subproblem5.proofs.reduced.reduced_solutionset.Statement.{statement}
 use Rattle.subproblem5.proofs.reduced.reduced_solutionset.Tie as tie
 
-abbrev none : Triple
-none = record { first = nan; second = nan; third = nan }
+abbrev outside : Triple
+outside = record { first = nan; second = nan; third = nan }
 
 few : (n : ℕ) (l : List Triple) {r : TripleSet4}
     → n ≤ 4
     → length l ≡ 16
-    → r ≡ from-vec (take n (getD l 0 none ∷ getD l 1 none ∷ getD l 2 none ∷ getD l 3 none ∷ []))
+    → r ≡ from-vec (take n (getD l 0 outside ∷ getD l 1 outside ∷ getD l 2 outside ∷ getD l 3 outside ∷ []))
     → r ≡ reduced-solutionset (take n l)
 unfolding reduced-solutionset
 few n l h k e =
     let m : length (take n l) ≡ n = length-take-le n l (omega arith) in
     let t = le-leb n 4 h in
-    let f = first-four none l k in
+    let f = first-four outside l k in
     let g = take-take n 4 l h in
     cc
 

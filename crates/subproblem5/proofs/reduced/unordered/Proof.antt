@@ -14,8 +14,8 @@ use Rattle.triple_sort.specs.declared.Ordered.{Ordered}
 use Rattle.subproblem5.proofs.reduced.unordered.Statement.{statement}
 use Rattle.subproblem5.proofs.reduced.unordered.Tie as tie
 
-abbrev none : Triple
-none = record { first = nan; second = nan; third = nan }
+abbrev outside : Triple
+outside = record { first = nan; second = nan; third = nan }
 
 abbrev Inv-loop : tie.InvT-loop
 Inv-loop n solutions t₀ i₀ t i = (i ≤ n) × (length t ≡ 16) × (take i t ≡ map unordered (take i solutions))
@@ -27,13 +27,13 @@ module _ (n i : ℕ) (l : List Triple) (t : List Ordered) (f : n ≤ 16) (k : le
   same-length : (v : Ordered) → length (set t i v) ≡ 16
   same-length v = length-set t i v ∙ m
 
-  again : take i t ≡ map unordered (take i l) → take (i + 1) (set t i (unordered (getD l i none))) ≡ map unordered (take (i + 1) l)
+  again : take i t ≡ map unordered (take i l) → take (i + 1) (set t i (unordered (getD l i outside))) ≡ map unordered (take (i + 1) l)
   again inv =
       let a : i < length t = omega arith in
       let b : i < length l = omega arith in
-      let e = take-suc-set t i (unordered (getD l i none)) a in
-      let g = take-suc l i none b in
-      let u = map-append unordered (take i l) (getD l i none ∷ []) in
+      let e = take-suc-set t i (unordered (getD l i outside)) a in
+      let g = take-suc l i outside b in
+      let u = map-append unordered (take i l) (getD l i outside ∷ []) in
       simp add-one cc
 
 end : (n i : ℕ) (l : List Triple) (t : List Ordered) → i ≤ n → n ≤ i → take i t ≡ map unordered (take i l) → take n t ≡ map unordered (take n l)

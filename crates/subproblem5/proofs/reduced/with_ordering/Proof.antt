@@ -9,15 +9,15 @@ use lib.ListN.{length, getD, set}
 use borrow.Author.Needs.{needs}
 use Rattle.float.specs.Num.{_⊖_, _⊗_, _⊘_, one, infinity}
 use Rattle.tripleset.specs.declared.Triple.{Triple}
-use Rattle.triple_sort.specs.Sort.{at-front}
+use Rattle.triple_sort.specs.Port.{at-front}
 use Rattle.subproblem5.specs.Port.{with-gaps}
 use Rattle.subproblem5.specs.Reduced.{with-ordering}
 use Rattle.triple_sort.specs.declared.Ordered.{Ordered}
 use Rattle.subproblem5.proofs.reduced.with_ordering.Statement.{statement}
 use Rattle.subproblem5.proofs.reduced.with_ordering.Tie as tie
 
-abbrev none : Ordered
-none = record { ordering = nan; solution = record { first = nan; second = nan; third = nan } }
+abbrev outside : Ordered
+outside = record { ordering = nan; solution = record { first = nan; second = nan; third = nan } }
 
 abbrev ordered : Float → Triple → Ordered
 ordered last s = record { ordering = one ⊘ ((s .first ⊖ last) ⊗ (s .first ⊖ last)); solution = s }
@@ -25,13 +25,13 @@ ordered last s = record { ordering = one ⊘ ((s .first ⊖ last) ⊗ (s .first 
 -- the ordering values of k places from i on
 unfoldable from : ℕ → ℕ → Float → List Ordered → List Ordered
 from zero i last t = t
-from (suc k) i last t = let s = getD t i none .solution in from k (suc i) (s .first) (set t i (ordered last s))
+from (suc k) i last t = let s = getD t i outside .solution in from k (suc i) (s .first) (set t i (ordered last s))
 
 from-after : (k i : ℕ) (last : Float) (x : Ordered) (t : List Ordered) → from k (suc i) last (x ∷ t) ≡ x ∷ from k i last t
 unfolding from
 from-after zero i last x t = refl
 from-after (suc k) i last x t =
-    let s = getD t i none .solution in from-after k (suc i) (s .first) x (set t i (ordered last s))
+    let s = getD t i outside .solution in from-after k (suc i) (s .first) x (set t i (ordered last s))
 
 from-is : (k : ℕ) (last : Float) (t : List Ordered) → k ≤ length t → from k 0 last t ≡ at-front k (with-gaps last) t
 unfolding from with-ordering
@@ -54,7 +54,7 @@ begin n t e = let z : n - 0 ≡ n = omega arith in cc
 again : (n i : ℕ) (last : Float) (t t₀ : List Ordered)
     → i < n
     → from (n - i) i last t ≡ from n 0 infinity t₀
-    → let s = getD t i none .solution in
+    → let s = getD t i outside .solution in
     from (n - (i + 1)) (i + 1) (s .first) (set t i (ordered last s)) ≡ from n 0 infinity t₀
 unfolding from
 again n i last t t₀ h inv =
