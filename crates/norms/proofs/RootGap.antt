@@ -22,10 +22,29 @@ use Rattle.float.specs.Size.{Unsigned}
 use Rattle.root.proofs.Decode.{opened, neg-round, is-positive}
 use Rattle.root.proofs.Whole.{twice-sqrt, square-root-of}
 use Rattle.root.proofs.Squares.{square-suc, least, most}
-use Rattle.norms.specs.Norms.{below-tolerance, above-tolerance, Near, Far, two^-42, two^-21, two^-17, two^-7, two^20, two^60}
+use Rattle.norms.specs.Norms.{below-tolerance, above-tolerance, Near, Far}
 use Rattle.norms.specs.Norms as norms
-use Rattle.norms.proofs.Fractions.{whole-low, whole-high, up-to, away}
-use Rattle.triple_sort.proofs.NumberOrder.{by-test, lt-one-way, lt-through}
+use Rattle.norms.proofs.Fractions.{quotient-low, quotient-high, up-to, away}
+use Rattle.scalar.proofs.Order.{by-test, lt-one-way, lt-through}
+
+-- ---- the powers of two that the tests of src/ compare with, by their bits as there
+abbrev pub two^-42 : Float
+two^-42 = ofBits binary64 0x3d50_0000_0000_0000
+
+abbrev pub two^-21 : Float
+two^-21 = ofBits binary64 0x3ea0_0000_0000_0000
+
+abbrev pub two^-17 : Float
+two^-17 = ofBits binary64 0x3ee0_0000_0000_0000
+
+abbrev pub two^-7 : Float
+two^-7 = ofBits binary64 0x3f80_0000_0000_0000
+
+abbrev pub two^20 : Float
+two^20 = ofBits binary64 0x4130_0000_0000_0000
+
+abbrev pub two^60 : Float
+two^60 = ofBits binary64 0x43b0_0000_0000_0000
 
 -- ---- comparisons
 is-true : (t : Bool) → T t → t ≡ true
@@ -159,12 +178,12 @@ steps x = scaled 42 x
 finer-low : (n p k : ℕ) → 0 < p → n / p * 2 ^ k ≤ n * 2 ^ k / p
 finer-low n p k P =
     le-div-iff-mul-le P .1
-    (le-trans (le-of-eq (mul-right-comm (n / p) (2 ^ k) p)) (mul-le-mul-right (2 ^ k) (whole-low n p)))
+    (le-trans (le-of-eq (mul-right-comm (n / p) (2 ^ k) p)) (mul-le-mul-right (2 ^ k) (quotient-low n p)))
 
 finer-high : (n p k : ℕ) → 0 < p → n * 2 ^ k / p < (n / p + 1) * 2 ^ k
 finer-high n p k P =
     div-lt-iff-lt-mul P .1
-    (lt-of-lt-of-le (mul-lt-mul-of-pos-right (whole-high n p P) (pow-pos k)) (le-of-eq (mul-right-comm (n / p + 1) p (2 ^ k))))
+    (lt-of-lt-of-le (mul-lt-mul-of-pos-right (quotient-high n p P) (pow-pos k)) (le-of-eq (mul-right-comm (n / p + 1) p (2 ^ k))))
 
 -- squares of steps of 2 ^ -21 are whole numbers of steps of 2 ^ -42
 squared : (l : ℕ) → l * 2 ^ 1053 * (l * 2 ^ 1053) ≡ l * l * 2 ^ 2106
