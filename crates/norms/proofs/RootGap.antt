@@ -17,7 +17,7 @@ use lib.Ieee.Positive.{positive}
 use borrow.Author.Tests.{ltb-true, ltb-false, le-ltb}
 use Rattle.float.specs.Num.{_⊖_, nought, one}
 use Rattle.float.specs.Number.{abs}
-use Rattle.root.specs.Root.{WholeRoot, square, wholeRoot, halves, rounded, scaled, sqrt}
+use Rattle.root.specs.Root.{WholeRoot, square, wholeRoot, in-halves, rounded, scaled, sqrt}
 use Rattle.float.specs.Size.{Unsigned}
 use Rattle.root.proofs.Decode.{sqrt-open, neg-round, is-positive}
 use Rattle.root.proofs.Power.{squares, least, most}
@@ -188,7 +188,7 @@ root-between (fin false m e) p l h u v i j =
     let a : l * 2 ^ 1053 * (l * 2 ^ 1053) ≤ N = le-trans (le-of-eq (squared l)) (le-trans (mul-le-mul-right (2 ^ 2106) u) (le-trans (finer-low n (down e) 2106 (down-pos e)) (le-of-eq (sym is)))) in
     let more : (n / down e + 1) * 2 ^ 2106 ≤ h * h * 2 ^ 2106 = mul-le-mul-right (2 ^ 2106) (let w = v in omega arith) in
     let b : N ≤ h * 2 ^ 1053 * (h * 2 ^ 1053) = le-of-lt (lt-of-le-of-lt (le-of-eq is) (lt-of-lt-of-le (finer-high n (down e) 2106 (down-pos e)) (le-trans more (le-of-eq (sym (squared h)))))) in
-    let S = halves square N in
+    let S = in-halves square N in
     let t = twice squares N in
     let f : l * 2 ^ 1075 ≤ S * 2 ^ 21 = le-trans (le-of-eq (halves l (2 ^ 1053) (2 ^ 21))) (mul-le-mul-right (2 ^ 21) (t .reaches (l * 2 ^ 1053) a)) in
     let g : S * 2 ^ 21 ≤ h * 2 ^ 1075 = le-trans (mul-le-mul-right (2 ^ 21) (t .within (h * 2 ^ 1053) b)) (le-of-eq (sym (halves h (2 ^ 1053) (2 ^ 21)))) in
