@@ -22,7 +22,8 @@ use Rattle.pairset.specs.PairSet4.{get-all, size}
 use Rattle.pairset.specs.declared.Pair.{Pair}
 use Rattle.kinematics.specs.declared.Kinematics.{Kinematics}
 use Rattle.search_definition.specs.Demand.{Strict}
-use Rattle.search_error.specs.Error.{p-16, t64-given-q1, answer-error, error-given-q1, error-i, answers}
+use Rattle.families_shared.specs.Place.{p-16}
+use Rattle.search_error.specs.Error.{t64-given-q1, answer-error, error-given-q1, error-i, answers}
 
 -- ---- a NaN in an operation
 add-nan : (x : Float) → nan ⊕ x ≡ nan
@@ -81,7 +82,7 @@ module _ (kin : Kinematics) (r-06 : Matrix) (p-0t : Vector3) (q1 : Float) (e : i
 
   answer-nan : (a : Pair) → answer-error kin r-06 p-0t q1 a ≡ nan
   unfolding answer-error
-  answer-nan a = error-nan _ _ (less-nan _ _ _ _ _ (turned-nan (p-16 kin r-06 p-0t)))
+  answer-nan a = error-nan _ _ (less-nan _ _ _ _ _ (turned-nan (p-16 r-06 p-0t kin)))
 
 -- ---- a component by its number
 -- what is not set is infinite, or no component

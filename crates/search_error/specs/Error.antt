@@ -16,6 +16,7 @@ use Rattle.pairset.specs.declared.PairSet4.{PairSet4}
 use Rattle.subproblems.specs.Subproblem1.{subproblem1}
 use Rattle.subproblem6.specs.Subproblem6.{subproblem6}
 use Rattle.kinematics.specs.declared.Kinematics.{Kinematics}
+use Rattle.families_shared.specs.Place.{p-16}
 
 -- f64::MIN_POSITIVE
 abbrev pub min-positive : Float
@@ -26,16 +27,12 @@ abbrev pub max-positive : Float → Float
 max-positive x = cond (lt min-positive x) x min-positive
 
 module _ (kin : Kinematics) (r-06 : Matrix) (p-0t : Vector3) where
-  -- p_0t - kin.p.column(0) - r_06 * kin.p.column(6)
-  unfoldable pub p-16 : Vector3
-  p-16 = p-0t -ᵛ kin .p0 -ᵛ apply r-06 (kin .p6)
-
   -- subproblem 6's answers (t6, t4) at q1
   unfoldable pub t64-given-q1 : Float → PairSet4
   t64-given-q1 q1 =
       let r-01 = rot (kin .h1) q1 in
       let h1 = row-apply (row-apply (kin .h2) (transpose r-01)) r-06 in
-      let d1 = dot (kin .h2) (apply (transpose r-01) p-16 -ᵛ kin .p1 -ᵛ kin .p2 -ᵛ kin .p3) in
+      let d1 = dot (kin .h2) (apply (transpose r-01) (p-16 r-06 p-0t kin) -ᵛ kin .p1 -ᵛ kin .p2 -ᵛ kin .p3) in
       subproblem6 (h1 ∷ kin .h2 ∷ h1 ∷ kin .h2 ∷ []) (negᵛ (kin .h6) ∷ kin .h4 ∷ negᵛ (kin .h6) ∷ kin .h4 ∷ [])
       (kin .p5 ∷ kin .p4 ∷ kin .h5 ∷ negᵛ (kin .h5) ∷ []) d1 nought
 
@@ -49,7 +46,7 @@ module _ (kin : Kinematics) (r-06 : Matrix) (p-0t : Vector3) where
       let t23 = subproblem1 (apply r-34 (kin .h5)) (apply r-16 (kin .h5)) (kin .h2) .theta in
       let r-13 = rot (kin .h2) t23 in
       let l2 = max-positive (norm (kin .p2)) in
-      let p-13 = apply (transpose r-01) p-16 -ᵛ kin .p1 -ᵛ apply r-13 (kin .p3) -ᵛ apply (product r-13 r-34) (kin .p4) -ᵛ apply r-16 (kin .p5) in
+      let p-13 = apply (transpose r-01) (p-16 r-06 p-0t kin) -ᵛ kin .p1 -ᵛ apply r-13 (kin .p3) -ᵛ apply (product r-13 r-34) (kin .p4) -ᵛ apply r-16 (kin .p5) in
       (norm p-13 ⊖ l2) ⊘ l2
 
   -- the four components

@@ -14,7 +14,8 @@ use Rattle.pairset.specs.declared.PairSet4.{PairSet4}
 use Rattle.subproblems.specs.Subproblem1.{subproblem1-theta}
 use Rattle.subproblem6.specs.Subproblem6.{subproblem6}
 use Rattle.kinematics.specs.declared.Kinematics.{Kinematics}
-use Rattle.search_error.specs.Error.{max-positive, p-16}
+use Rattle.families_shared.specs.Place.{p-16}
+use Rattle.search_error.specs.Error.{max-positive}
 use Rattle.search_error.specs.declared.Given.{Given}
 use Rattle.search_error.specs.declared.Turned.{Turned}
 
@@ -31,7 +32,7 @@ given kin r-06 p-0t =
       row1 = row r-06 0;
       row2 = row r-06 1;
       row3 = row r-06 2;
-      «p_16» = p-16 kin r-06 p-0t;
+      «p_16» = p-16 r-06 p-0t kin;
       l2 = max-positive (norm (kin .p2));
     }
 

@@ -1,5 +1,6 @@
 // The error of two_parallel (inverse_kinematics/mod.rs) as a named function of what the arm and the pose
 // give, and of q1. What does not depend on q1 is computed once.
+use families_shared::turn::p_16;
 use kinematics::Kinematics;
 use linear::Matrix3;
 use linear::Vector3;
@@ -46,13 +47,6 @@ fn max_positive(x: f64) -> f64
     if x > MIN_POSITIVE { x } else { MIN_POSITIVE }
 }
 
-fn p_16(kin: Kinematics, r_06: Matrix3, p_0t: Vector3) -> Vector3
-    ensures { λ r. ⌜ r ≡ Plain.p-16 kin «r_06» «p_0t» ⌝ }
-{
-    let p = linear::sub(p_0t, kin.p0);
-    linear::sub(p, linear::apply(r_06, kin.p6))
-}
-
 impl Given {
     pub fn new(kin: Kinematics, r_06: Matrix3, p_0t: Vector3) -> Given
         ensures { λ r. ⌜ r ≡ given kin «r_06» «p_0t» ⌝ }
@@ -71,7 +65,7 @@ impl Given {
             row1,
             row2,
             row3,
-            p_16: p_16(kin, r_06, p_0t),
+            p_16: p_16(r_06, p_0t, kin),
             l2: max_positive(linear::norm(kin.p2)),
         }
     }

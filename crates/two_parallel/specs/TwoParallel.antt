@@ -16,7 +16,8 @@ use Rattle.subproblems.specs.Subproblem1.{subproblem1-within}
 use Rattle.kinematics.specs.declared.Kinematics.{Kinematics}
 use Rattle.answers.specs.declared.Answer.{Answer}
 use Rattle.search_definition.specs.Found.{Pair, pairs}
-use Rattle.search_error.specs.Error.{p-16, t64-given-q1}
+use Rattle.families_shared.specs.Place.{p-16}
+use Rattle.search_error.specs.Error.{t64-given-q1}
 use Rattle.search.specs.Demand.{two-parallel-search}
 
 module _ (r-06 : Matrix) (p-0t : Vector3) (kin : Kinematics) (tolerance : Float) where
@@ -31,7 +32,7 @@ module _ (r-06 : Matrix) (p-0t : Vector3) (kin : Kinematics) (tolerance : Float)
       let r-16 = product (product (transpose r-01) r-06) (transpose r-56) in
       let t23 = subproblem1-within (apply r-34 (kin .h5)) (apply r-16 (kin .h5)) (kin .h2) tolerance in
       let r-13 = rot (kin .h2) (t23 .theta) in
-      let p-13 = apply (transpose r-01) (p-16 kin r-06 p-0t) -ᵛ kin .p1 -ᵛ apply r-13 (kin .p3) -ᵛ apply (product r-13 r-34) (kin .p4) -ᵛ apply r-16 (kin .p5) in
+      let p-13 = apply (transpose r-01) (p-16 r-06 p-0t kin) -ᵛ kin .p1 -ᵛ apply r-13 (kin .p3) -ᵛ apply (product r-13 r-34) (kin .p4) -ᵛ apply r-16 (kin .p5) in
       let q2 = subproblem1-within (kin .p2) p-13 (kin .h2) tolerance in
       let q5 = subproblem1-within (apply (transpose r-34) (kin .h2)) (apply (product (product r-56 (transpose r-06)) r-01) (kin .h2)) (negᵛ (kin .h5)) tolerance in
       record {

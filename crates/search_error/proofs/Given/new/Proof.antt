@@ -6,7 +6,8 @@ use Rattle.linear.specs.Vector.{norm, normalize, negᵛ}
 use Rattle.linear.specs.Matrix.{Matrix, row}
 use Rattle.vector.specs.declared.Vector3.{Vector3}
 use Rattle.kinematics.specs.declared.Kinematics.{Kinematics}
-use Rattle.search_error.specs.Error.{max-positive, p-16}
+use Rattle.families_shared.specs.Place.{p-16}
+use Rattle.search_error.specs.Error.{max-positive}
 use Rattle.search_error.specs.Given.{given}
 use Rattle.search_error.specs.declared.Given.{Given}
 use Rattle.search_error.proofs.Given.new.Statement.{statement}
@@ -19,7 +20,7 @@ met : (kin : Kinematics) (r-06 : Matrix) (p-0t : Vector3) {u1 u2 u4 u6 m5 m6 p :
     → u6 ≡ normalize (kin .h6)
     → m5 ≡ negᵛ (kin .h5)
     → m6 ≡ negᵛ (kin .h6)
-    → p ≡ p-16 kin r-06 p-0t
+    → p ≡ p-16 r-06 p-0t kin
     → n ≡ norm (kin .p2)
     → l ≡ max-positive n
     → _≡_ {A = Given} (record { kin = kin; u1 = u1; u2 = u2; u4 = u4; u6 = u6; «minus_h5» = m5; «minus_h6» = m6; row1 = row r-06 0; row2 = row r-06 1; row3 = row r-06 2; «p_16» = p; l2 = l }) (given kin r-06 p-0t)
