@@ -1,3 +1,3 @@
 pub mod Laws
-pub mod Turns
+pub mod Steps
 pub mod Kept

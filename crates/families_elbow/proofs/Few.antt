@@ -6,7 +6,7 @@ use lib.Ieee.{Float}
 use lib.ListN.{length}
 use Rattle.vector.specs.declared.Vector3.{Vector3}
 use Rattle.kinematics.specs.declared.Kinematics.{Kinematics}
-use Rattle.answers.proofs.Turns.{at-most}
+use Rattle.answers.proofs.Steps.{at-most}
 use Rattle.families_elbow.specs.Elbow.{theta3, theta14, elbow-q3, elbow}
 use Rattle.families_shared.proofs.Few.{few2}
 

@@ -1,8 +1,8 @@
 // What the two families with three parallel axes share.
 use answers::Answer;
 use families_shared::Units;
-use families_shared::turn::ahead;
-use families_shared::turn::either;
+use families_shared::ahead;
+use families_shared::either;
 use kinematics::Kinematics;
 use linear::Matrix3;
 use linear::Vector3;
@@ -54,9 +54,9 @@ fn elbow_q3(
     requires { ⌜ unit ≡ units kin ⌝ }
     ensures { λ r. ⌜ Wrote (elbow-q3 kin tolerance «d_inner» theta14 q1 q5 q6 «is_ls» q3) (now (angles .entry)) (now (flags .entry)) (now (angles .exit)) (now (flags .exit)) r ⌝ }
 {
-    let turned = linear::apply(ahead(kin.h2, unit.h2, q3), kin.p3);
+    let rotated = linear::apply(ahead(kin.h2, unit.h2, q3), kin.p3);
     let s = subproblems::subproblem1_within(
-        linear::add(kin.p2, turned),
+        linear::add(kin.p2, rotated),
         d_inner,
         kin.h2,
         tolerance,

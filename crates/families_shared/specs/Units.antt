@@ -1,4 +1,4 @@
--- The axes that the families turn about, normalised once for a solve: what `rot` does at each call.
+-- The axes that the families rotate about, normalised once for a solve: what `rot` does at each call.
 use Rattle.linear.specs.Vector.{normalize}
 use Rattle.kinematics.specs.declared.Kinematics.{Kinematics}
 use Rattle.families_shared.specs.declared.Units.{Units}

@@ -6,7 +6,7 @@ use lib.Ieee.{Float}
 use lib.ListN.{length}
 use Rattle.linear.specs.Matrix.{Matrix}
 use Rattle.kinematics.specs.declared.Kinematics.{Kinematics}
-use Rattle.answers.proofs.Turns.{at-most}
+use Rattle.answers.proofs.Steps.{at-most}
 use Rattle.families_wrist.specs.Wrist.{t5, wrist-q5, wrist}
 use Rattle.families_shared.proofs.Few.{few2}
 

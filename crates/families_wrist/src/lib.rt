@@ -1,10 +1,10 @@
 // The end of the three families with a spherical wrist.
 use answers::Answer;
 use families_shared::Units;
-use families_shared::turn::ahead;
-use families_shared::turn::any3;
-use families_shared::turn::back;
-use families_shared::turn::either;
+use families_shared::ahead;
+use families_shared::any3;
+use families_shared::back;
+use families_shared::either;
 use kinematics::Kinematics;
 use linear::Matrix3;
 use linear::Vector3;

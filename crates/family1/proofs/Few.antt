@@ -6,7 +6,7 @@ use lib.ListN.{length}
 use Rattle.linear.specs.Matrix.{Matrix}
 use Rattle.vector.specs.declared.Vector3.{Vector3}
 use Rattle.kinematics.specs.declared.Kinematics.{Kinematics}
-use Rattle.answers.proofs.Turns.{at-most}
+use Rattle.answers.proofs.Steps.{at-most}
 use Rattle.families_wrist.specs.Wrist.{r-36}
 use Rattle.family1.specs.SphericalTwoParallel as F1
 use Rattle.families_shared.proofs.Few.{few2}

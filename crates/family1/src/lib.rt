@@ -1,10 +1,10 @@
 // Family 1: spherical_two_parallel.
 use families_shared::Units;
-use families_shared::turn::ahead;
-use families_shared::turn::any3;
-use families_shared::turn::back;
-use families_shared::turn::product4;
-use families_shared::turn::units;
+use families_shared::ahead;
+use families_shared::any3;
+use families_shared::back;
+use families_shared::product4;
+use families_shared::units;
 use families_wrist::wrist;
 use kinematics::Kinematics;
 use linear::Matrix3;
@@ -46,9 +46,9 @@ fn q2(kin: Kinematics, unit: Units, tolerance: f64, p_13: Vector3, q3: f64) -> S
     requires { ⌜ unit ≡ units kin ⌝ }
     ensures { λ r. ⌜ r ≡ q2 kin tolerance «p_13» q3 ⌝ }
 {
-    let turned = linear::apply(ahead(kin.h3, unit.h3, q3), kin.p3);
+    let rotated = linear::apply(ahead(kin.h3, unit.h3, q3), kin.p3);
     subproblems::subproblem1_within(
-        linear::sub(linear::neg(kin.p2), turned),
+        linear::sub(linear::neg(kin.p2), rotated),
         p_13,
         kin.h2,
         tolerance,

@@ -1,10 +1,10 @@
 // Family 2: spherical_two_intersecting.
 use families_shared::Units;
-use families_shared::turn::ahead;
-use families_shared::turn::back;
-use families_shared::turn::either;
-use families_shared::turn::product4;
-use families_shared::turn::units;
+use families_shared::ahead;
+use families_shared::back;
+use families_shared::either;
+use families_shared::product4;
+use families_shared::units;
 use families_wrist::wrist;
 use kinematics::Kinematics;
 use linear::Matrix3;
@@ -35,10 +35,10 @@ fn t12(kin: Kinematics, unit: Units, p_16: Vector3, q3: f64) -> SolvedPairs2
     requires { ⌜ unit ≡ units kin ⌝ }
     ensures { λ r. ⌜ r ≡ t12 kin «p_16» q3 ⌝ }
 {
-    let turned = linear::apply(ahead(kin.h3, unit.h3, q3), kin.p3);
+    let rotated = linear::apply(ahead(kin.h3, unit.h3, q3), kin.p3);
     subproblems::subproblem2(
         p_16,
-        linear::add(kin.p2, turned),
+        linear::add(kin.p2, rotated),
         linear::neg(kin.h1),
         kin.h2,
     )

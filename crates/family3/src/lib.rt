@@ -1,9 +1,9 @@
 // Family 3: spherical.
 use families_shared::Units;
-use families_shared::turn::back;
-use families_shared::turn::p_16;
-use families_shared::turn::product4;
-use families_shared::turn::units;
+use families_shared::back;
+use families_shared::p_16;
+use families_shared::product4;
+use families_shared::units;
 use families_wrist::wrist;
 use kinematics::Kinematics;
 use linear::Matrix3;

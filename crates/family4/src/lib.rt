@@ -2,11 +2,11 @@
 use families_elbow::elbow;
 use families_elbow::theta14;
 use families_shared::Units;
-use families_shared::turn::ahead;
-use families_shared::turn::any4;
-use families_shared::turn::p_16;
-use families_shared::turn::product4;
-use families_shared::turn::units;
+use families_shared::ahead;
+use families_shared::any4;
+use families_shared::p_16;
+use families_shared::product4;
+use families_shared::units;
 use kinematics::Kinematics;
 use linear::Matrix3;
 use linear::Vector3;
@@ -39,8 +39,8 @@ fn theta5(r_06: Matrix3, kin: Kinematics, r_01: Matrix3, r_10: Matrix3) -> Solve
 fn d_inner(kin: Kinematics, reach: Vector3, r_14: Matrix3) -> Vector3
     ensures { λ r. ⌜ r ≡ reach -ᵛ kin .p1 -ᵛ apply «r_14» (kin .p4 +ᵛ kin .p5) ⌝ }
 {
-    let turned = linear::apply(r_14, linear::add(kin.p4, kin.p5));
-    linear::sub(linear::sub(reach, kin.p1), turned)
+    let rotated = linear::apply(r_14, linear::add(kin.p4, kin.p5));
+    linear::sub(linear::sub(reach, kin.p1), rotated)
 }
 
 fn q6(

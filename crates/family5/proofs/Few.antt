@@ -7,7 +7,7 @@ use Rattle.linear.specs.Matrix.{Matrix, rot}
 use Rattle.vector.specs.declared.Vector3.{Vector3}
 use Rattle.pairset.specs.declared.Pair.{Pair}
 use Rattle.kinematics.specs.declared.Kinematics.{Kinematics}
-use Rattle.answers.proofs.Turns.{at-most}
+use Rattle.answers.proofs.Steps.{at-most}
 use Rattle.families_shared.specs.Place.{p-16}
 use Rattle.families_elbow.specs.Elbow.{theta14}
 use Rattle.family5.specs.ThreeParallel as F5

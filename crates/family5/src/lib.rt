@@ -2,10 +2,10 @@
 use families_elbow::elbow;
 use families_elbow::theta14;
 use families_shared::Units;
-use families_shared::turn::ahead;
-use families_shared::turn::either;
-use families_shared::turn::p_16;
-use families_shared::turn::units;
+use families_shared::ahead;
+use families_shared::either;
+use families_shared::p_16;
+use families_shared::units;
 use kinematics::Kinematics;
 use linear::Matrix3;
 use linear::Vector3;

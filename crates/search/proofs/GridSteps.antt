@@ -15,7 +15,7 @@ use Rattle.search_definition.specs.Search.{edge-at, edges, runs, of-component, 
 use Rattle.search_definition.proofs.Bounds.{of-component-held, angles-length}
 use Rattle.search.specs.State.{State, held, afterwards, point, row}
 use Rattle.search.specs.Searched.{Sampled, Gridded, of-components}
-use Rattle.search_dip.proofs.States.{after-both, after-nothing, after-two, spend, after-asks}
+use Rattle.search_pairs.proofs.States.{after-both, after-nothing, after-two, spend, after-asks}
 use Rattle.search_edge.proofs.Rows.{both, component-same}
 
 -- ---- the runs: of n + 1 samples, s + m are passed, the last m of which are a run

@@ -15,10 +15,10 @@ use Rattle.search_definition.specs.Search.{search-1d-bracketed}
 use Rattle.search_definition.proofs.Bounds.{search-held}
 use Rattle.search.specs.State.{State, held, state, angle-of, component-of, afterwards}
 use Rattle.search.specs.Searched.{Searched, Listed, search-within}
-use Rattle.search_dip.specs.declared.pairs.Found.{Found}
-use Rattle.search_dip.proofs.States.{after-nothing}
+use Rattle.search_pairs.specs.declared.SearchCounts.{SearchCounts}
+use Rattle.search_pairs.proofs.States.{after-nothing}
 
-pub searched : (o : Out) (q : List Float) (c : List ℕ) {q′ : List Float} {c′ : List ℕ} {r : Found} → state q′ c′ r ≡ afterwards (held q c 0 0) o → Searched o q c q′ c′ r
+pub searched : (o : Out) (q : List Float) (c : List ℕ) {q′ : List Float} {c′ : List ℕ} {r : SearchCounts} → state q′ c′ r ≡ afterwards (held q c 0 0) o → Searched o q c q′ c′ r
 unfolding afterwards
 searched o q c e =
     record {
@@ -28,7 +28,7 @@ searched o q c e =
       evals = ap (λ (z : State). z .evals) e ∙ zero-add _;
     }
 
-pub same-error : {err err′ : ℕ → Float → Float} (n : ℕ) (q : List Float) (c : List ℕ) {q′ : List Float} {c′ : List ℕ} {r : Found} → err ≡ err′ → Searched (search-within err n) q c q′ c′ r → Searched (search-within err′ n) q c q′ c′ r
+pub same-error : {err err′ : ℕ → Float → Float} (n : ℕ) (q : List Float) (c : List ℕ) {q′ : List Float} {c′ : List ℕ} {r : SearchCounts} → err ≡ err′ → Searched (search-within err n) q c q′ c′ r → Searched (search-within err′ n) q c q′ c′ r
 same-error n q c {q′} {c′} {r} e s = subst (λ (f : ℕ → Float → Float). Searched (search-within f n) q c q′ c′ r) e s
 
 module _ (err : ℕ → Float → Float) (n : ℕ) where
@@ -38,7 +38,7 @@ module _ (err : ℕ → Float → Float) (n : ℕ) where
   pub beyond : 400 < n → nothing ≡ search-within err n
   beyond h = rw (lt-leb n 400 h)
 
-  pub listed : (q : List Float) (c : List ℕ) {q′ : List Float} {c′ : List ℕ} {r : Found} → n ≤ 400 → 44 * n ≤ length q → 44 * n ≤ length c → Searched (search-within err n) q c q′ c′ r → Listed (search-1d-bracketed err n) q c q′ c′ r
+  pub listed : (q : List Float) (c : List ℕ) {q′ : List Float} {c′ : List ℕ} {r : SearchCounts} → n ≤ 400 → 44 * n ≤ length q → 44 * n ≤ length c → Searched (search-within err n) q c q′ c′ r → Listed (search-1d-bracketed err n) q c q′ c′ r
   listed q c {q′} {c′} {r} h a b w =
       let s : Searched (search-1d-bracketed err n) q c q′ c′ r = rw (within h) w in
       let l = search-1d-bracketed err n .found in

@@ -9,16 +9,16 @@ use Rattle.kinematics.specs.declared.Kinematics.{Kinematics}
 use Rattle.search_definition.specs.Found.{Out}
 use Rattle.search_definition.specs.Search.{search-1d-bracketed}
 use Rattle.search_definition.specs.Demand.{Demand3}
-use Rattle.search_error.specs.Error.{error-i, answers}
+use Rattle.search_error.specs.Error.{error-i, t64-count}
 use Rattle.search.specs.Searched.{Listed, search-within}
-use Rattle.search_dip.specs.declared.pairs.Found.{Found}
+use Rattle.search_pairs.specs.declared.SearchCounts.{SearchCounts}
 
 -- the search's definition over the error of two_parallel: its list, with what added each position, and the angles that it asks
 abbrev pub two-parallel-search : Kinematics → Matrix → Vector3 → ℕ → Out
 two-parallel-search kin r-06 p-0t n = search-within (error-i kin r-06 p-0t) n
 
 module _ (kin : Kinematics) (r-06 : Matrix) (p-0t : Vector3) (n : ℕ) where
-  pub record Demanded (q : List Float) (c : List ℕ) (q′ : List Float) (c′ : List ℕ) (r : Found) : Type 0 where
+  pub record Demanded (q : List Float) (c : List ℕ) (q′ : List Float) (c′ : List ℕ) (r : SearchCounts) : Type 0 where
     -- "evaluates its error exactly as often as the definition does": its field `evals`.
     -- "The search's list is then the definition's, bit for bit and in its order": its fields `angles`, `components` and `pairs`.
     pub listed : Listed (search-1d-bracketed (error-i kin r-06 p-0t) n) q c q′ c′ r
@@ -26,4 +26,4 @@ module _ (kin : Kinematics) (r-06 : Matrix) (p-0t : Vector3) (n : ℕ) where
     pub bounded : r .evals ≤ n + 1 + 3128 * n
     pub few : r .pairs ≤ 44 * n
     -- "every pair (q1, i) in it has q1 finite, error i at q1 finite, and i below the number of subproblem 6's answers at q1. No crossing is lost: [..]"
-    pub definition : Demand3 (error-i kin r-06 p-0t) n (answers kin r-06 p-0t)
+    pub definition : Demand3 (error-i kin r-06 p-0t) n (t64-count kin r-06 p-0t)

@@ -13,7 +13,7 @@ use Rattle.search_definition.specs.Found.{Out, nothing, _then_}
 use Rattle.search_definition.specs.Dip.{Point}
 use Rattle.search_definition.specs.Search.{angle, of-component, search-1d-bracketed}
 use Rattle.search.specs.State.{angle-of, component-of}
-use Rattle.search_dip.specs.declared.pairs.Found as Declared
+use Rattle.search_pairs.specs.declared.SearchCounts as Declared
 
 -- left + k * delta, written out
 abbrev pub spaced : ℕ → ℕ → Float
@@ -41,14 +41,14 @@ abbrev pub search-within : (ℕ → Float → Float) → ℕ → Out
 search-within err n = cond (leb n 400) (search-1d-bracketed err n) nothing
 
 -- The pairs of o stand in the two lists from the first place on, as far as there is room, and the rest of the lists is as it was. All pairs are counted, and all evaluations.
-pub record Searched (o : Out) (q : List Float) (c : List ℕ) (q′ : List Float) (c′ : List ℕ) (r : Declared.Found) : Type 0 where
+pub record Searched (o : Out) (q : List Float) (c : List ℕ) (q′ : List Float) (c′ : List ℕ) (r : Declared.SearchCounts) : Type 0 where
   pub angles : q′ ≡ sets q 0 (map angle-of (o .found))
   pub components : c′ ≡ sets c 0 (map component-of (o .found))
   pub pairs : r .pairs ≡ length (o .found)
   pub evals : r .evals ≡ length (o .asked)
 
 -- The same with room for every pair: the lists are the definition's, in its order, and then what stood there.
-pub record Listed (o : Out) (q : List Float) (c : List ℕ) (q′ : List Float) (c′ : List ℕ) (r : Declared.Found) : Type 0 where
+pub record Listed (o : Out) (q : List Float) (c : List ℕ) (q′ : List Float) (c′ : List ℕ) (r : Declared.SearchCounts) : Type 0 where
   pub angles : q′ ≡ map angle-of (o .found) ++ drop (r .pairs) q
   pub components : c′ ≡ map component-of (o .found) ++ drop (r .pairs) c
   pub pairs : r .pairs ≡ length (o .found)

@@ -5,7 +5,7 @@ mod grid;
 
 pub use grid::search_1d_bracketed;
 pub use grid::search_two_parallel;
-pub use search_dip::pairs::Found;
+pub use search_pairs::SearchCounts;
 // The parts of a search, for the test program search_vectors.
 pub use grid::sample_grid;
 pub use grid::scan_runs;

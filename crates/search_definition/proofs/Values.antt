@@ -9,10 +9,10 @@ use lib.Ieee.{Float, binary64, ofBits, ofInt, add, sub, mul, div, neg, lt, le, e
 use lib.ListN.{length}
 use Rattle.float.specs.Num.{_⊕_, _⊖_, _⊗_, one, two, infinity}
 use Rattle.search_definition.specs.Found.{Entry, Origin, Place, grid, edge, crossing, inner, last, first, only, before, after, run}
-use Rattle.search_definition.specs.Refine.{half, negative, next, near, narrowed, if-near, if-value, if-next, refine-turn, refine-from, refine-bracket}
-use Rattle.search_definition.specs.Dip.{left-of, right-of, sign-of, bettered, best, if-below, probe, depth, moved, dip-turn, opened, lowest-from, lowest, entry, if-tangent, refined, if-crossed, settled, minimise-dip}
+use Rattle.search_definition.specs.Refine.{half, negative, next, near, narrowed, if-near, if-value, if-next, refine-step, refine-from, refine-bracket}
+use Rattle.search_definition.specs.Dip.{left-of, right-of, sign-of, bettered, best, if-below, probe, depth, moved, dip-step, opened, lowest-from, lowest, entry, if-tangent, refined, if-crossed, settled, minimise-dip}
 use Rattle.search_definition.specs.Scan.{alike, crosses, dips, falls-to, falls-back, if-dip, inner-dip, if-crosses, item, items, last-dip, first-dip, scan-samples}
-use Rattle.search_definition.specs.Search.{mid, if-inside, keep, turned, share, halved, bisect, subsample, subsamples, edge-points, edge-row, row-at, if-first-inside, scan-row, edge-from, if-alike, edge-at, edges, runs, of-component, delta, angle, angles, sample, search-1d-bracketed}
+use Rattle.search_definition.specs.Search.{mid, if-inside, keep, reversed-if, share, halved, bisect, subsample, subsamples, edge-points, edge-row, row-at, if-first-inside, scan-row, edge-from, if-alike, edge-at, edges, runs, of-component, delta, angle, angles, sample, search-1d-bracketed}
 
 -- 0.2 and 0.01
 abbrev fifth : Float
@@ -40,5 +40,5 @@ record Values : Type 0 where
   asked-7 : length (search-1d-bracketed stand-in 7 .asked) ≡ 80
 
 values : Values
-unfolding stand-in negative next near narrowed if-near if-value if-next refine-turn refine-from refine-bracket left-of right-of sign-of bettered best if-below probe depth moved dip-turn opened lowest-from lowest entry if-tangent refined if-crossed settled minimise-dip alike crosses dips falls-to falls-back if-dip inner-dip if-crosses item items last-dip first-dip scan-samples mid if-inside keep turned share halved bisect subsample subsamples edge-points edge-row row-at if-first-inside scan-row edge-from if-alike edge-at edges runs of-component delta angle angles sample search-1d-bracketed run ofBits ofInt add sub mul div neg lt le eq
+unfolding stand-in negative next near narrowed if-near if-value if-next refine-step refine-from refine-bracket left-of right-of sign-of bettered best if-below probe depth moved dip-step opened lowest-from lowest entry if-tangent refined if-crossed settled minimise-dip alike crosses dips falls-to falls-back if-dip inner-dip if-crosses item items last-dip first-dip scan-samples mid if-inside keep reversed-if share halved bisect subsample subsamples edge-points edge-row row-at if-first-inside scan-row edge-from if-alike edge-at edges runs of-component delta angle angles sample search-1d-bracketed run ofBits ofInt add sub mul div neg lt le eq
 values = record { found-1 = refl; asked-1 = refl; found-2 = refl; asked-2 = refl; found-7 = refl; asked-7 = refl }

@@ -1,2 +1,2 @@
 pub mod DipSteps
-pub mod States
+pub mod Dips

@@ -1,12 +1,12 @@
 // minimise_dip: golden section for the point of a component closest to zero where both ends have one sign.
 // A minimum that crosses zero gives two refinements; one that does not is a tangent candidate.
-use crate::pairs::Found;
-use crate::pairs::put_pair;
-use crate::pairs::put_refined;
 use float::infinity;
 use float::is_finite;
-use search_error::Given;
+use search_error::Fixed;
 use search_error::error_at;
+use search_pairs::SearchCounts;
+use search_pairs::put_pair;
+use search_pairs::put_refined;
 ghost use mathlib.Core.Path.{_≡_};
 ghost use mathlib.Core.Bool.{cond};
 ghost use Prim.Native.Nat.{_<_, _≤_, _+_};
@@ -14,9 +14,10 @@ ghost use lib.Ieee.{lt};
 ghost use Rattle.search_definition.specs.Found.{Part, Origin, component};
 ghost use Rattle.search_definition.specs.Dip as Dip;
 ghost use Rattle.search_definition.specs.Dip.{left-of, right-of, sign-of, minimise-dip};
-ghost use Rattle.search_error.specs.Given.{error-at};
+ghost use Rattle.search_error.specs.Fixed.{error-at};
 ghost use Rattle.search_refine.specs.Counted.{result, total};
-ghost use Rattle.search_dip.specs.State.{valley, point, state, afterwards};
+ghost use Rattle.search_pairs.specs.State.{point, state, afterwards};
+ghost use Rattle.search_dip.specs.Valley.{valley};
 
 const INV_PHI: f64 = 0.618033988749895;
 
@@ -57,11 +58,11 @@ pub fn sign_of(y: f64) -> f64
 }
 
 // The Rust's closure g: one evaluation, infinite where the component is not finite.
-pub fn depth(given: Given, i: usize, sign: f64, x: f64) -> f64
+pub fn depth(fixed: Fixed, i: usize, sign: f64, x: f64) -> f64
     requires { ⌜ i < 4 ⌝ }
-    ensures { λ r. ⌜ r ≡ Dip.depth (error-at given i) sign x ⌝ }
+    ensures { λ r. ⌜ r ≡ Dip.depth (error-at fixed i) sign x ⌝ }
 {
-    let y = error_at(given, i, x);
+    let y = error_at(fixed, i, x);
     if is_finite(y) {
         return sign * y;
     }
@@ -69,13 +70,13 @@ pub fn depth(given: Given, i: usize, sign: f64, x: f64) -> f64
 }
 
 // One golden section: the side with the lower point is kept, and its new point evaluated.
-pub fn moved(given: Given, i: usize, sign: f64, v: Valley) -> Valley
+pub fn moved(fixed: Fixed, i: usize, sign: f64, v: Valley) -> Valley
     requires { ⌜ (i < 4) × (v .evals < 1000) ⌝ }
-    ensures { λ r. ⌜ result (valley r) (r .evals) ≡ result (Dip.moved (error-at given i) sign (lt (v .g1) (v .g2)) (valley v)) (v .evals + 1) ⌝ }
+    ensures { λ r. ⌜ result (valley r) (r .evals) ≡ result (Dip.moved (error-at fixed i) sign (lt (v .g1) (v .g2)) (valley v)) (v .evals + 1) ⌝ }
 {
     if v.g1 < v.g2 {
         let p = left_of(v.lo, v.x2);
-        let g = depth(given, i, sign, p);
+        let g = depth(fixed, i, sign, p);
         return Valley {
             hi: v.x2,
             x1: p,
@@ -87,7 +88,7 @@ pub fn moved(given: Given, i: usize, sign: f64, v: Valley) -> Valley
         };
     }
     let p = right_of(v.x1, v.hi);
-    let g = depth(given, i, sign, p);
+    let g = depth(fixed, i, sign, p);
     Valley {
         lo: v.x1,
         x1: v.x2,
@@ -117,16 +118,16 @@ pub fn best(v: Valley) -> Valley
 }
 
 // The first two inner points, with their two evaluations.
-pub fn opened(given: Given, i: usize, sign: f64, a: f64, b: f64) -> Valley
+pub fn opened(fixed: Fixed, i: usize, sign: f64, a: f64, b: f64) -> Valley
     requires { ⌜ i < 4 ⌝ }
-    ensures { λ r. ⌜ result (valley r) (r .evals) ≡ result (Dip.opened (error-at given i) sign a b) 2 ⌝ }
+    ensures { λ r. ⌜ result (valley r) (r .evals) ≡ result (Dip.opened (error-at fixed i) sign a b) 2 ⌝ }
 {
     let x1 = left_of(a, b);
     let x2 = right_of(a, b);
     let mut evals = 0u64;
-    let g1 = depth(given, i, sign, x1);
+    let g1 = depth(fixed, i, sign, x1);
     evals += 1;
-    let g2 = depth(given, i, sign, x2);
+    let g2 = depth(fixed, i, sign, x2);
     evals += 1;
     let c = g1 < g2;
     let best_x = pick(c, x1, x2);
@@ -144,13 +145,13 @@ pub fn opened(given: Given, i: usize, sign: f64, a: f64, b: f64) -> Valley
     }
 }
 
-pub fn lowest(given: Given, i: usize, sign: f64, a: f64, b: f64) -> Valley
+pub fn lowest(fixed: Fixed, i: usize, sign: f64, a: f64, b: f64) -> Valley
     requires { ⌜ i < 4 ⌝ }
-    ensures { λ r. ⌜ result (valley r) (r .evals) ≡ total (Dip.lowest (error-at given i) sign a b) ⌝ }
+    ensures { λ r. ⌜ result (valley r) (r .evals) ≡ total (Dip.lowest (error-at fixed i) sign a b) ⌝ }
 {
-    let mut v = opened(given, i, sign, a, b);
+    let mut v = opened(fixed, i, sign, a, b);
     for _ in 0..16usize {
-        v = best(moved(given, i, sign, v));
+        v = best(moved(fixed, i, sign, v));
         if v.best_g < 0.0 {
             break;
         }
@@ -159,7 +160,7 @@ pub fn lowest(given: Given, i: usize, sign: f64, a: f64, b: f64) -> Valley
 }
 
 pub fn minimise_dip(
-    given: Given,
+    fixed: Fixed,
     i: u8,
     a: f64,
     b: f64,
@@ -167,25 +168,25 @@ pub fn minimise_dip(
     fb: f64,
     qs: &mut [f64],
     cs: &mut [u8],
-    f: Found,
-) -> Found
+    f: SearchCounts,
+) -> SearchCounts
     requires { ⌜ (i < 4) × (f .pairs ≤ 1000000) × (f .evals ≤ 1000000000) ⌝ }
-    ensures { λ r. ⌜ ((o : Part → Origin) → ((h : Part) → component (o h) ≡ i) → state (now (qs .exit)) (now (cs .exit)) r ≡ afterwards (state (now (qs .entry)) (now (cs .entry)) f) (minimise-dip (error-at given i) o (point a fa) (point b fb))) ⌝ }
+    ensures { λ r. ⌜ ((o : Part → Origin) → ((h : Part) → component (o h) ≡ i) → state (now (qs .exit)) (now (cs .exit)) r ≡ afterwards (state (now (qs .entry)) (now (cs .entry)) f) (minimise-dip (error-at fixed i) o (point a fa) (point b fb))) ⌝ }
 {
     let sign = sign_of(fa);
-    let v = lowest(given, i as usize, sign, a, b);
+    let v = lowest(fixed, i as usize, sign, a, b);
     let n = v.evals;
     let x = v.best_x;
     let g = v.best_g;
     let evals = f.evals;
-    let h = Found {
+    let h = SearchCounts {
         pairs: f.pairs,
         evals: evals + n,
     };
     if g < 0.0 {
         let m = sign * g;
-        let k = put_refined(given, i, a, x, fa, m, qs, cs, h);
-        return put_refined(given, i, x, b, m, fb, qs, cs, k);
+        let k = put_refined(fixed, i, a, x, fa, m, qs, cs, h);
+        return put_refined(fixed, i, x, b, m, fb, qs, cs, k);
     }
     if is_finite(g) {
         return put_pair(i, x, qs, cs, h);

@@ -16,12 +16,12 @@ use Rattle.float.specs.Number.{is-finite}
 use Rattle.search_definition.specs.Found.{Place, Origin, edge, Out, nothing, asks, _then_, Asked, asking}
 use Rattle.search_definition.specs.Dip.{Point}
 use Rattle.search_definition.specs.Scan.{scan-samples}
-use Rattle.search_definition.specs.Search.{Gap, mid, if-inside, keep, turned, share, halved, bisect, subsample, subsamples, edge-points, edge-row, row-at, if-first-inside, scan-row, edge-from, if-alike, edge-at}
+use Rattle.search_definition.specs.Search.{Gap, mid, if-inside, keep, reversed-if, share, halved, bisect, subsample, subsamples, edge-points, edge-row, row-at, if-first-inside, scan-row, edge-from, if-alike, edge-at}
 use Rattle.search_definition.proofs.Bounds.{then-assoc}
 use Rattle.search_refine.specs.Counted.{Counted, result, counted}
-use Rattle.search_dip.specs.State.{point, row, firsts, State, afterwards}
+use Rattle.search_pairs.specs.State.{point, row, firsts, State, afterwards}
 use Rattle.search_refine.proofs.Count.{counted-asking}
-use Rattle.search_dip.proofs.States.{after-both, after-nothing, after-two, spend, after-asks}
+use Rattle.search_pairs.proofs.States.{after-both, after-nothing, after-two, spend, after-asks}
 use Rattle.search_edge.proofs.Rows.{scan-same}
 
 -- ---- bisection
@@ -121,7 +121,7 @@ module _ (f : Float → Float) (e p : Point) where
       ∙ sym (ap (λ (z : ℕ). counted n (record { value = A ++ (subsamples f (e .x) (p .x) z j .value ++ (p ∷ [])); asked = subsamples f (e .x) (p .x) z j .asked })) k)
       ∙ inv
 
--- ---- a row that is turned round
+-- ---- a row that is reversed-if round
 abbrev back : (ℕ → Point) → ℕ → ℕ → Point
 back P m j = P (m - 1 - j)
 
@@ -130,12 +130,12 @@ unfolding firsts
 front P zero = refl
 front P (suc m) = ap (λ (l : List Point). l ++ (P (suc m) ∷ [])) (front P m)
 
-turn-firsts : (P : ℕ → Point) (m : ℕ) → reverse (firsts P m) ≡ firsts (back P m) m
+reverse-firsts : (P : ℕ → Point) (m : ℕ) → reverse (firsts P m) ≡ firsts (back P m) m
 unfolding firsts
-turn-firsts P zero = refl
-turn-firsts P (suc m) =
+reverse-firsts P zero = refl
+reverse-firsts P (suc m) =
     reverse-append (firsts P m) (P m ∷ [])
-    ∙ ap (λ (l : List Point). P m ∷ l) (turn-firsts P m ∙ firsts-ext (back P m) (λ (j : ℕ). back P (suc m) (suc j)) m shift)
+    ∙ ap (λ (l : List Point). P m ∷ l) (reverse-firsts P m ∙ firsts-ext (back P m) (λ (j : ℕ). back P (suc m) (suc j)) m shift)
     ∙ ap (λ (p : Point). p ∷ firsts (λ (j : ℕ). back P (suc m) (suc j)) m) (ap P top)
     ∙ sym (front (back P (suc m)) m)
   where
@@ -148,8 +148,8 @@ turn-firsts P (suc m) =
         same-place : (j : ℕ) → j < m → m - 1 - j ≡ suc m - 1 - suc j
         same-place j h = omega arith
 
-pub turned-row : (P Q : ℕ → Point) (m : ℕ) → ((j : ℕ) → j < m → Q j ≡ P (m - 1 - j)) → firsts Q m ≡ reverse (firsts P m)
-turned-row P Q m h = firsts-ext Q (back P m) m h ∙ sym (turn-firsts P m)
+pub reversed-row : (P Q : ℕ → Point) (m : ℕ) → ((j : ℕ) → j < m → Q j ≡ P (m - 1 - j)) → firsts Q m ≡ reverse (firsts P m)
+reversed-row P Q m h = firsts-ext Q (back P m) m h ∙ sym (reverse-firsts P m)
 
 pub set-next : (b : List Float) (g : ℕ → Float) (k : ℕ) {v : Float} → v ≡ g k → k < length b → ((j : ℕ) → j < k → getD b j nan ≡ g j) → (j : ℕ) → j < k + 1 → getD (set b k v) j nan ≡ g j
 set-next b g k {v} e h inv j l = go (ℕ-discrete j k)
@@ -195,13 +195,13 @@ module _ (f : Float → Float) (o : Place → Origin) (g : Gap) (s : State) {b :
   abbrev R : Asked (List Point)
   R = edge-row f (B .value .inside) (g .inside)
 
-  row-is : result (turned (lt (g .inside .x) (b .inside .x)) l) n ≡ counted (s .evals + length (B .asked)) R
+  row-is : result (reversed-if (lt (g .inside .x) (b .inside .x)) l) n ≡ counted (s .evals + length (B .asked)) R
   unfolding edge-row
   row-is =
-      ap (λ (c : Counted (List Point)). result (turned (lt (g .inside .x) (b .inside .x)) (c .value)) (c .evals)) el
+      ap (λ (c : Counted (List Point)). result (reversed-if (lt (g .inside .x) (b .inside .x)) (c .value)) (c .evals)) el
       ∙ ap (λ (c : Counted Gap). counted (c .evals) (edge-row f (c .value .inside) (g .inside))) eb
 
-  edge-done : firsts P m ≡ turned (lt (g .inside .x) (b .inside .x)) l → t ≡ afterwards s (edge-from f o g)
+  edge-done : firsts P m ≡ reversed-if (lt (g .inside .x) (b .inside .x)) l → t ≡ afterwards s (edge-from f o g)
   unfolding edge-from
   edge-done e =
       let S : State = record { angles = s .angles; components = s .components; pairs = s .pairs; evals = n } in
@@ -214,12 +214,12 @@ module _ (f : Float → Float) (o : Place → Origin) (g : Gap) (s : State) {b :
       ∙ sym (after-both s (asks (B .asked)) (asks (R .asked) then scan-row f o (R .value)))
 
   pub edge-straight : lt (g .inside .x) (b .inside .x) ≡ false → firsts P m ≡ l → t ≡ afterwards s (edge-from f o g)
-  unfolding turned
-  edge-straight h e = edge-done (e ∙ sym (ap (λ (z : Bool). turned z l) h))
+  unfolding reversed-if
+  edge-straight h e = edge-done (e ∙ sym (ap (λ (z : Bool). reversed-if z l) h))
 
-  pub edge-turned : lt (g .inside .x) (b .inside .x) ≡ true → firsts P m ≡ reverse l → t ≡ afterwards s (edge-from f o g)
-  unfolding turned
-  edge-turned h e = edge-done (e ∙ sym (ap (λ (z : Bool). turned z l) h))
+  pub edge-reversed : lt (g .inside .x) (b .inside .x) ≡ true → firsts P m ≡ reverse l → t ≡ afterwards s (edge-from f o g)
+  unfolding reversed-if
+  edge-reversed h e = edge-done (e ∙ sym (ap (λ (z : Bool). reversed-if z l) h))
 
 -- ---- between two samples
 module _ (f : Float → Float) (i : ℕ) (P : ℕ → Point) (k : ℕ) (s : State) {a b : Bool} (ea : a ≡ is-finite (P k .y)) (eb : b ≡ is-finite (P (k + 1) .y)) where

@@ -1,9 +1,9 @@
 // The end of a branch between two grid samples: it is located by bisection, and the last stretch is
 // resampled densely towards it.
 use float::is_finite;
-use search_dip::pairs::Found;
-use search_error::Given;
+use search_error::Fixed;
 use search_error::error_at;
+use search_pairs::SearchCounts;
 use search_scan::scan::scan_samples;
 ghost use mathlib.Core.Path.{_≡_};
 ghost use Prim.Native.Nat.{ℕ, _<_, _≤_, _+_, _-_};
@@ -14,9 +14,9 @@ ghost use Rattle.float.specs.Number.{is-finite};
 ghost use Rattle.search_definition.specs.Found.{Place, Origin, component};
 ghost use Rattle.search_definition.specs.Search as Search;
 ghost use Rattle.search_definition.specs.Search.{keep, edge-points, edge-from, edge-at};
-ghost use Rattle.search_error.specs.Given.{error-at};
+ghost use Rattle.search_error.specs.Fixed.{error-at};
 ghost use Rattle.search_refine.specs.Counted.{result, counted};
-ghost use Rattle.search_dip.specs.State.{point, row, firsts, held, state, afterwards};
+ghost use Rattle.search_pairs.specs.State.{point, row, firsts, held, state, afterwards};
 ghost use Rattle.search_edge.specs.State.{gap};
 
 // A point of the branch, with its value, and an angle where the branch is not; the evaluations so far.
@@ -33,12 +33,12 @@ pub struct Row {
     pub evals: u64,
 }
 
-pub fn halved(given: Given, i: usize, g: Gap) -> Gap
+pub fn halved(fixed: Fixed, i: usize, g: Gap) -> Gap
     requires { ⌜ (i < 4) × (g .evals ≤ 2000000000) ⌝ }
-    ensures { λ r. ⌜ result (gap r) (r .evals) ≡ result (Search.halved (error-at given i) (gap g)) (g .evals + 1) ⌝ }
+    ensures { λ r. ⌜ result (gap r) (r .evals) ≡ result (Search.halved (error-at fixed i) (gap g)) (g .evals + 1) ⌝ }
 {
     let mid = 0.5 * (g.x + g.out);
-    let y = error_at(given, i, mid);
+    let y = error_at(fixed, i, mid);
     let evals = g.evals + 1;
     if is_finite(y) {
         return Gap {
@@ -56,13 +56,13 @@ pub fn halved(given: Given, i: usize, g: Gap) -> Gap
     }
 }
 
-pub fn bisect(given: Given, i: usize, g: Gap) -> Gap
+pub fn bisect(fixed: Fixed, i: usize, g: Gap) -> Gap
     requires { ⌜ (i < 4) × (g .evals ≤ 1000000000) ⌝ }
-    ensures { λ r. ⌜ result (gap r) (r .evals) ≡ counted (g .evals) (Search.bisect (error-at given i) 16 (gap g)) ⌝ }
+    ensures { λ r. ⌜ result (gap r) (r .evals) ≡ counted (g .evals) (Search.bisect (error-at fixed i) 16 (gap g)) ⌝ }
 {
     let mut h = g;
     for _ in 0..16usize {
-        h = halved(given, i, h);
+        h = halved(fixed, i, h);
     }
     h
 }
@@ -90,7 +90,7 @@ pub fn keep_finite(x: f64, y: f64, xs: &mut [f64], ys: &mut [f64], m: usize) -> 
 
 // Quadratic spacing from the branch's end, at lo, to the grid's sample at x, so that the sqrt-like start is resolved.
 pub fn edge_row(
-    given: Given,
+    fixed: Fixed,
     i: usize,
     lo: f64,
     y_lo: f64,
@@ -101,7 +101,7 @@ pub fn edge_row(
     ys: &mut [f64],
 ) -> Row
     requires { ⌜ (i < 4) × (evals ≤ 1000000000) × (length (now xs) ≡ 9) × (length (now ys) ≡ 9) ⌝ }
-    ensures { λ r. ⌜ (r .len ≤ 9) × (result (firsts (row (now (xs .exit)) (now (ys .exit))) (r .len)) (r .evals) ≡ counted evals (edge-points (error-at given i) (point lo «y_lo») (point x y))) ⌝ }
+    ensures { λ r. ⌜ (r .len ≤ 9) × (result (firsts (row (now (xs .exit)) (now (ys .exit))) (r .len)) (r .evals) ≡ counted evals (edge-points (error-at fixed i) (point lo «y_lo») (point x y))) ⌝ }
 {
     xs[0] = lo;
     ys[0] = y_lo;
@@ -109,7 +109,7 @@ pub fn edge_row(
     let mut n = evals;
     for j in 1..8u64 {
         let p = lo + (x - lo) * share(j);
-        let q = error_at(given, i, p);
+        let q = error_at(fixed, i, p);
         n += 1;
         m = keep_finite(p, q, xs, ys, m);
     }
@@ -122,7 +122,7 @@ pub fn edge_row(
 }
 
 // The first m numbers of `a`, the last of them first.
-pub fn turn_round(a: &[f64], m: usize, b: &mut [f64])
+pub fn reverse_row(a: &[f64], m: usize, b: &mut [f64])
     requires { ⌜ (m ≤ length (now a)) × (m ≤ length (now b)) ⌝ }
     ensures { λ _. ⌜ ((j : ℕ) → j < m → getD (now (b .exit)) j nan ≡ getD (now (a .entry)) (m - 1 - j) nan) ⌝ }
 {
@@ -133,17 +133,24 @@ pub fn turn_round(a: &[f64], m: usize, b: &mut [f64])
     }
 }
 
-pub fn scan_edge(given: Given, i: u8, g: Gap, qs: &mut [f64], cs: &mut [u8], pairs: usize) -> Found
+pub fn scan_edge(
+    fixed: Fixed,
+    i: u8,
+    g: Gap,
+    qs: &mut [f64],
+    cs: &mut [u8],
+    pairs: usize,
+) -> SearchCounts
     requires { ⌜ (i < 4) × (pairs ≤ 800000) × (g .evals ≤ 800000000) ⌝ }
-    ensures { λ r. ⌜ ((o : Place → Origin) → ((p : Place) → component (o p) ≡ i) → state (now (qs .exit)) (now (cs .exit)) r ≡ afterwards (held (now (qs .entry)) (now (cs .entry)) pairs (g .evals)) (edge-from (error-at given i) o (gap g))) ⌝ }
+    ensures { λ r. ⌜ ((o : Place → Origin) → ((p : Place) → component (o p) ≡ i) → state (now (qs .exit)) (now (cs .exit)) r ≡ afterwards (held (now (qs .entry)) (now (cs .entry)) pairs (g .evals)) (edge-from (error-at fixed i) o (gap g))) ⌝ }
 {
-    let e = bisect(given, i as usize, g);
+    let e = bisect(fixed, i as usize, g);
     let mut xs = [0.0; 9];
     let mut ys = [0.0; 9];
     let lo = e.x;
     let x = g.x;
     let r = edge_row(
-        given,
+        fixed,
         i as usize,
         lo,
         e.y,
@@ -154,33 +161,33 @@ pub fn scan_edge(given: Given, i: u8, g: Gap, qs: &mut [f64], cs: &mut [u8], pai
         &mut ys,
     );
     let m = r.len;
-    let h = Found {
+    let h = SearchCounts {
         pairs,
         evals: r.evals,
     };
     if x < lo {
         let mut us = [0.0; 9];
         let mut vs = [0.0; 9];
-        turn_round(&xs, m, &mut us);
-        turn_round(&ys, m, &mut vs);
-        return scan_samples(given, i, &us, &vs, 0, m, qs, cs, h);
+        reverse_row(&xs, m, &mut us);
+        reverse_row(&ys, m, &mut vs);
+        return scan_samples(fixed, i, &us, &vs, 0, m, qs, cs, h);
     }
-    scan_samples(given, i, &xs, &ys, 0, m, qs, cs, h)
+    scan_samples(fixed, i, &xs, &ys, 0, m, qs, cs, h)
 }
 
 // What is found at the edge, if there is one, between the grid's samples k and k + 1.
 pub fn edge_at(
-    given: Given,
+    fixed: Fixed,
     i: u8,
     xs: &[f64],
     ys: &[f64],
     k: usize,
     qs: &mut [f64],
     cs: &mut [u8],
-    f: Found,
-) -> Found
+    f: SearchCounts,
+) -> SearchCounts
     requires { ⌜ (i < 4) × (k + 1 < length (now xs)) × (k + 1 < length (now ys)) × (f .pairs ≤ 800000) × (f .evals ≤ 800000000) ⌝ }
-    ensures { λ r. ⌜ state (now (qs .exit)) (now (cs .exit)) r ≡ afterwards (state (now (qs .entry)) (now (cs .entry)) f) (edge-at (error-at given i) i (row (now (xs .entry)) (now (ys .entry))) k) ⌝ }
+    ensures { λ r. ⌜ state (now (qs .exit)) (now (cs .exit)) r ≡ afterwards (state (now (qs .entry)) (now (cs .entry)) f) (edge-at (error-at fixed i) i (row (now (xs .entry)) (now (ys .entry))) k) ⌝ }
 {
     let x0 = xs[k];
     let y0 = ys[k];
@@ -198,7 +205,7 @@ pub fn edge_at(
             out: x1,
             evals: f.evals,
         };
-        return scan_edge(given, i, g, qs, cs, f.pairs);
+        return scan_edge(fixed, i, g, qs, cs, f.pairs);
     }
     let g = Gap {
         x: x1,
@@ -206,5 +213,5 @@ pub fn edge_at(
         out: x0,
         evals: f.evals,
     };
-    scan_edge(given, i, g, qs, cs, f.pairs)
+    scan_edge(fixed, i, g, qs, cs, f.pairs)
 }

@@ -1,2 +1,2 @@
-pub mod Once
+pub mod SameError
 pub mod Strict

@@ -23,7 +23,7 @@ use Rattle.pairset.specs.declared.Pair.{Pair}
 use Rattle.kinematics.specs.declared.Kinematics.{Kinematics}
 use Rattle.search_definition.specs.Demand.{Strict}
 use Rattle.families_shared.specs.Place.{p-16}
-use Rattle.search_error.specs.Error.{t64-given-q1, answer-error, error-given-q1, error-i, answers}
+use Rattle.search_error.specs.Error.{t64-given-q1, answer-error, error-given-q1, error-i, t64-count}
 
 -- ---- a NaN in an operation
 add-nan : (x : Float) → nan ⊕ x ≡ nan
@@ -76,13 +76,13 @@ error-nan v l h = rw (norm-nan v h, sub-nan, div-nan)
 
 module _ (kin : Kinematics) (r-06 : Matrix) (p-0t : Vector3) (q1 : Float) (e : is-finite q1 ≡ false) where
   -- the first part of r_01^T v
-  turned-nan : (v : Vector3) → apply (transpose (rot (kin .h1) q1)) v .x ≡ nan
+  moved-nan : (v : Vector3) → apply (transpose (rot (kin .h1) q1)) v .x ≡ nan
   unfolding apply transpose rot rot-unit
-  turned-nan v = rw (rotation-nan _ (sin q1) _ (no-sine q1 e), mul-nan, add-nan, add-nan)
+  moved-nan v = rw (rotation-nan _ (sin q1) _ (no-sine q1 e), mul-nan, add-nan, add-nan)
 
   answer-nan : (a : Pair) → answer-error kin r-06 p-0t q1 a ≡ nan
   unfolding answer-error
-  answer-nan a = error-nan _ _ (less-nan _ _ _ _ _ (turned-nan (p-16 r-06 p-0t kin)))
+  answer-nan a = error-nan _ _ (less-nan _ _ _ _ _ (moved-nan (p-16 r-06 p-0t kin)))
 
 -- ---- a component by its number
 -- what is not set is infinite, or no component
@@ -128,13 +128,13 @@ module _ (kin : Kinematics) (r-06 : Matrix) (p-0t : Vector3) where
       let l = get-all (t64-given-q1 kin r-06 p-0t q1) in
       all-nan (replicate 4 infinity) (map (answer-error kin r-06 p-0t q1) l) 0 i four-infinite (mapped-nan q1 e l)
 
-  unanswered : (i : ℕ) (q1 : Float) → answers kin r-06 p-0t q1 ≤ i → is-finite (error-i kin r-06 p-0t i q1) ≡ false
+  unanswered : (i : ℕ) (q1 : Float) → t64-count kin r-06 p-0t q1 ≤ i → is-finite (error-i kin r-06 p-0t i q1) ≡ false
   unfolding error-i error-given-q1
   unanswered i q1 h =
       let l = get-all (t64-given-q1 kin r-06 p-0t q1) in
       ap (λ x. is-finite x) (unset (replicate 4 infinity) (map (answer-error kin r-06 p-0t q1) l) 0 i (omega (arith, length-map l (answer-error kin r-06 p-0t q1)))) ∙ four-infinite i
 
-  pub strict : Strict (error-i kin r-06 p-0t) (answers kin r-06 p-0t)
+  pub strict : Strict (error-i kin r-06 p-0t) (t64-count kin r-06 p-0t)
   strict = record { angle = at; answered = below }
     where
       at : (i : ℕ) (q1 : Float) → is-finite (error-i kin r-06 p-0t i q1) ≡ true → is-finite q1 ≡ true
@@ -144,12 +144,12 @@ module _ (kin : Kinematics) (r-06 : Matrix) (p-0t : Vector3) where
           go true e = refl
           go false e = absurd (true≢false (sym h ∙ nowhere i q1 e))
 
-      below : (i : ℕ) (q1 : Float) → is-finite (error-i kin r-06 p-0t i q1) ≡ true → i < answers kin r-06 p-0t q1
-      below i q1 h = go (decLt i (answers kin r-06 p-0t q1))
+      below : (i : ℕ) (q1 : Float) → is-finite (error-i kin r-06 p-0t i q1) ≡ true → i < t64-count kin r-06 p-0t q1
+      below i q1 h = go (decLt i (t64-count kin r-06 p-0t q1))
         where
-          go : Dec (i < answers kin r-06 p-0t q1) → i < answers kin r-06 p-0t q1
+          go : Dec (i < t64-count kin r-06 p-0t q1) → i < t64-count kin r-06 p-0t q1
           go (yes l) = l
           go (no n) = absurd (true≢false (sym h ∙ unanswered i q1 (past n)))
             where
-              past : (i < answers kin r-06 p-0t q1 → ⊥) → answers kin r-06 p-0t q1 ≤ i
+              past : (i < t64-count kin r-06 p-0t q1 → ⊥) → t64-count kin r-06 p-0t q1 ≤ i
               past n = omega arith

@@ -58,5 +58,5 @@ module _ (kin : Kinematics) (r-06 : Matrix) (p-0t : Vector3) where
   error-i i q1 = getD (error-given-q1 q1) i nan
 
   -- the number of subproblem 6's answers at q1
-  abbrev pub answers : Float → ℕ
-  answers q1 = size (t64-given-q1 q1)
+  abbrev pub t64-count : Float → ℕ
+  t64-count q1 = size (t64-given-q1 q1)

@@ -1,6 +1,6 @@
 // The error of two_parallel (inverse_kinematics/mod.rs) as a named function of what the arm and the pose
 // give, and of q1. What does not depend on q1 is computed once.
-use families_shared::turn::p_16;
+use families_shared::p_16;
 use kinematics::Kinematics;
 use linear::Matrix3;
 use linear::Vector3;
@@ -9,13 +9,13 @@ use solutionset::PairSet4;
 ghost use mathlib.Core.Path.{_≡_};
 ghost use Prim.Native.Nat.{_<_};
 ghost use Rattle.search_error.specs.Error as Plain;
-ghost use Rattle.search_error.specs.Given.{given, rotation, turned, turned-rotation, t64, t23, gap, answer-error, error-of, error-at};
+ghost use Rattle.search_error.specs.Fixed.{fixed, rotation, given-q1, rotation-given-q1, t64, t23, gap, answer-error, error-of, error-at};
 
 const MIN_POSITIVE: f64 = 2.2250738585072014e-308;
 
-// The arm; the axes that are turned about, normalised; two negations; r_06 by rows; p_16; and the
+// The arm; the axes that are rotated about, normalised; two negations; r_06 by rows; p_16; and the
 // length of p2, or MIN_POSITIVE if that is more.
-pub struct Given {
+pub struct Fixed {
     pub kin: Kinematics,
     pub u1: Vector3,
     pub u2: Vector3,
@@ -32,7 +32,7 @@ pub struct Given {
 
 // What q1 gives to all answers: r_01^T r_06 by rows, the first of subproblem 6's vectors h, and
 // r_01^T p_16 - p1.
-pub struct Turned {
+pub struct GivenQ1 {
     pub row1: [f64; 3],
     pub row2: [f64; 3],
     pub row3: [f64; 3],
@@ -47,14 +47,14 @@ fn max_positive(x: f64) -> f64
     if x > MIN_POSITIVE { x } else { MIN_POSITIVE }
 }
 
-impl Given {
-    pub fn new(kin: Kinematics, r_06: Matrix3, p_0t: Vector3) -> Given
-        ensures { λ r. ⌜ r ≡ given kin «r_06» «p_0t» ⌝ }
+impl Fixed {
+    pub fn new(kin: Kinematics, r_06: Matrix3, p_0t: Vector3) -> Fixed
+        ensures { λ r. ⌜ r ≡ fixed kin «r_06» «p_0t» ⌝ }
     {
         let row1 = r_06[0];
         let row2 = r_06[1];
         let row3 = r_06[2];
-        Given {
+        Fixed {
             kin,
             u1: linear::normalize(kin.h1),
             u2: linear::normalize(kin.h2),
@@ -79,8 +79,8 @@ impl Given {
         [row1, row2, row3]
     }
 
-    pub fn turned(self, q1: f64) -> Turned
-        ensures { λ r. ⌜ r ≡ turned self q1 ⌝ }
+    pub fn given_q1(self, q1: f64) -> GivenQ1
+        ensures { λ r. ⌜ r ≡ given-q1 self q1 ⌝ }
     {
         let kin = self.kin;
         let r_10 = linear::transpose(linear::rot_unit(self.u1, q1));
@@ -91,7 +91,7 @@ impl Given {
         let row1 = r_16[0];
         let row2 = r_16[1];
         let row3 = r_16[2];
-        Turned {
+        GivenQ1 {
             row1,
             row2,
             row3,
@@ -101,7 +101,7 @@ impl Given {
     }
 
     // Subproblem 6's answers (t6, t4).
-    pub fn t64(self, t: Turned) -> PairSet4
+    pub fn t64(self, t: GivenQ1) -> PairSet4
         ensures { λ r. ⌜ r ≡ t64 self t ⌝ }
     {
         let kin = self.kin;
@@ -133,7 +133,7 @@ impl Given {
     }
 
     // How long p2 would have to be.
-    fn gap(self, t: Turned, r_16: Matrix3, r_34: Matrix3) -> f64
+    fn gap(self, t: GivenQ1, r_16: Matrix3, r_34: Matrix3) -> f64
         ensures { λ r. ⌜ r ≡ gap self t «r_16» «r_34» ⌝ }
     {
         let kin = self.kin;
@@ -145,7 +145,7 @@ impl Given {
 
     // What one answer sets. Relative to |p2|, so that the search's touch threshold is independent of
     // the length unit.
-    pub fn answer_error(self, t: Turned, a: Pair) -> f64
+    pub fn answer_error(self, t: GivenQ1, a: Pair) -> f64
         ensures { λ r. ⌜ r ≡ answer-error self t a ⌝ }
     {
         let r_56 = linear::rot_unit(self.u6, a.first);
@@ -155,9 +155,9 @@ impl Given {
     }
 }
 
-impl Turned {
+impl GivenQ1 {
     pub fn rotation(self) -> Matrix3
-        ensures { λ r. ⌜ r ≡ turned-rotation self ⌝ }
+        ensures { λ r. ⌜ r ≡ rotation-given-q1 self ⌝ }
     {
         let row1 = self.row1;
         let row2 = self.row2;
@@ -167,36 +167,36 @@ impl Turned {
 }
 
 // The error's four components at q1, all infinite at first; component i is set from answer i.
-pub fn error_given_q1(given: Given, q1: f64) -> [f64; 4]
-    ensures { λ r. ⌜ r ≡ error-of given q1 ⌝ }
+pub fn error_given_q1(fixed: Fixed, q1: f64) -> [f64; 4]
+    ensures { λ r. ⌜ r ≡ error-of fixed q1 ⌝ }
 {
     let inf = float::infinity();
-    let t = given.turned(q1);
-    match given.t64(t) {
+    let t = fixed.given_q1(q1);
+    match fixed.t64(t) {
         PairSet4::Zero => [inf, inf, inf, inf],
-        PairSet4::One(a) => [given.answer_error(t, a), inf, inf, inf],
-        PairSet4::Two(a, b) => { [given.answer_error(t, a), given.answer_error(t, b), inf, inf] }
+        PairSet4::One(a) => [fixed.answer_error(t, a), inf, inf, inf],
+        PairSet4::Two(a, b) => { [fixed.answer_error(t, a), fixed.answer_error(t, b), inf, inf] }
         PairSet4::Three(a, b, c) => {
-            let e0 = given.answer_error(t, a);
-            let e1 = given.answer_error(t, b);
-            let e2 = given.answer_error(t, c);
+            let e0 = fixed.answer_error(t, a);
+            let e1 = fixed.answer_error(t, b);
+            let e2 = fixed.answer_error(t, c);
             [e0, e1, e2, inf]
         }
         PairSet4::Four(a, b, c, d) => {
-            let e0 = given.answer_error(t, a);
-            let e1 = given.answer_error(t, b);
-            let e2 = given.answer_error(t, c);
-            let e3 = given.answer_error(t, d);
+            let e0 = fixed.answer_error(t, a);
+            let e1 = fixed.answer_error(t, b);
+            let e2 = fixed.answer_error(t, c);
+            let e3 = fixed.answer_error(t, d);
             [e0, e1, e2, e3]
         }
     }
 }
 
 // One component of the error: one evaluation.
-pub fn error_at(given: Given, i: usize, q1: f64) -> f64
+pub fn error_at(fixed: Fixed, i: usize, q1: f64) -> f64
     requires { ⌜ i < 4 ⌝ }
-    ensures { λ r. ⌜ r ≡ error-at given i q1 ⌝ }
+    ensures { λ r. ⌜ r ≡ error-at fixed i q1 ⌝ }
 {
-    let e = error_given_q1(given, q1);
+    let e = error_given_q1(fixed, q1);
     e[i]
 }

@@ -3,8 +3,8 @@
 // and each component must have as many crossings as its stored pairs say.
 use crate::rows;
 use float::is_finite;
-use search::Found;
-use search_error::Given;
+use search::SearchCounts;
+use search_error::Fixed;
 use search_places::place;
 use search_places::record;
 ghost use Prim.Native.Nat.{_<_, _≤_};
@@ -67,7 +67,7 @@ fn crossings(ys: &[f64; 401], n: usize) -> u64
 
 // The pairs of component i by their places, and its crossings.
 fn check_places(
-    given: Given,
+    fixed: Fixed,
     i: u8,
     n: usize,
     xs: &[f64; 401],
@@ -83,7 +83,7 @@ fn check_places(
     let mut j = 0usize;
     while j < m {
         if record::word(book, j, record::COMPONENT) == i as u64 {
-            let is = place::right(given, i, n, xs, ys, book, j);
+            let is = place::right(fixed, i, n, xs, ys, book, j);
             cases::count(tally, record::CHECKS, record::PLACES, is);
         }
         j += 1;
@@ -91,7 +91,7 @@ fn check_places(
 }
 
 fn check_components(
-    given: Given,
+    fixed: Fixed,
     n: usize,
     xs: &[f64; 401],
     y0: &[f64; 401],
@@ -104,15 +104,15 @@ fn check_components(
 )
     requires { ⌜ (n ≤ 400) × (m ≤ 17600) ⌝ }
 {
-    check_places(given, 0, n, xs, y0, book, m, tally);
-    check_places(given, 1, n, xs, y1, book, m, tally);
-    check_places(given, 2, n, xs, y2, book, m, tally);
-    check_places(given, 3, n, xs, y3, book, m, tally);
+    check_places(fixed, 0, n, xs, y0, book, m, tally);
+    check_places(fixed, 1, n, xs, y1, book, m, tally);
+    check_places(fixed, 2, n, xs, y2, book, m, tally);
+    check_places(fixed, 3, n, xs, y3, book, m, tally);
 }
 
 // The rows' pairs, one after the other.
 fn list(
-    given: Given,
+    fixed: Fixed,
     n: usize,
     xs: &[f64; 401],
     y0: &[f64; 401],
@@ -122,20 +122,20 @@ fn list(
     qs: &mut [f64; 17600],
     cs: &mut [u8; 17600],
     rows: &mut [u64; 17600],
-    f: Found,
-) -> Found
+    f: SearchCounts,
+) -> SearchCounts
     requires { ⌜ n ≤ 400 ⌝ }
 {
-    let f0 = rows::component(given, 0, n, xs, y0, qs, cs, rows, f);
-    let f1 = rows::component(given, 1, n, xs, y1, qs, cs, rows, f0);
-    let f2 = rows::component(given, 2, n, xs, y2, qs, cs, rows, f1);
-    rows::component(given, 3, n, xs, y3, qs, cs, rows, f2)
+    let f0 = rows::component(fixed, 0, n, xs, y0, qs, cs, rows, f);
+    let f1 = rows::component(fixed, 1, n, xs, y1, qs, cs, rows, f0);
+    let f2 = rows::component(fixed, 2, n, xs, y2, qs, cs, rows, f1);
+    rows::component(fixed, 3, n, xs, y3, qs, cs, rows, f2)
 }
 
 // They are the whole list, and their evaluations and the grid's are all.
 fn check_list(
     head: &[u8; 432],
-    given: Given,
+    fixed: Fixed,
     n: usize,
     xs: &[f64; 401],
     y0: &[f64; 401],
@@ -152,9 +152,9 @@ fn check_list(
     let mut qs = [0.0; 17600];
     let mut cs = [0u8; 17600];
     let mut rows = [0u64; 17600];
-    let none = Found { pairs: 0, evals };
+    let none = SearchCounts { pairs: 0, evals };
     let f = list(
-        given,
+        fixed,
         n,
         xs,
         y0,
@@ -171,8 +171,8 @@ fn check_list(
     check_rows(book, m, &qs, &cs, &rows, tally);
 }
 
-fn given(head: &[u8; 432]) -> Given {
-    Given::new(
+fn fixed(head: &[u8; 432]) -> Fixed {
+    Fixed::new(
         record::arm(head),
         record::rotation(head),
         record::place(head),
@@ -182,7 +182,7 @@ fn given(head: &[u8; 432]) -> Given {
 pub fn check(head: &[u8; 432], book: &[u8; 1830400], n: usize, m: usize, tally: &mut [u64; 64])
     requires { ⌜ (n ≤ 400) × (m ≤ 17600) ⌝ }
 {
-    let from = given(head);
+    let from = fixed(head);
     let mut xs = [0.0; 401];
     let mut y0 = [0.0; 401];
     let mut y1 = [0.0; 401];

@@ -1,7 +1,7 @@
 // The parts of the search that scan one row of samples each, run one after the other: for a component the
 // grid's, and then each edge's. Which of them added a pair is noted beside it.
-use search::Found;
-use search_error::Given;
+use search::SearchCounts;
+use search_error::Fixed;
 ghost use Prim.Native.Nat.{_<_, _≤_};
 
 const ROOM: usize = 17600;
@@ -9,11 +9,11 @@ const ROOM: usize = 17600;
 const EVALS: u64 = 2000000;
 
 // A list that is too long is a wrong one: it begins anew, and its number is wrong in the end.
-fn within(f: Found) -> Found
+fn within(f: SearchCounts) -> SearchCounts
     ensures { λ r. ⌜ (r .pairs ≤ 17600) × (r .evals ≤ 2000000) ⌝ }
 {
     if f.pairs > ROOM || f.evals > EVALS {
-        return Found { pairs: 0, evals: 0 };
+        return SearchCounts { pairs: 0, evals: 0 };
     }
     f
 }
@@ -34,7 +34,7 @@ fn mark(rows: &mut [u64; 17600], from: usize, to: usize, row: u64) {
 }
 
 fn grid(
-    given: Given,
+    fixed: Fixed,
     i: u8,
     n: usize,
     xs: &[f64; 401],
@@ -42,18 +42,18 @@ fn grid(
     qs: &mut [f64; 17600],
     cs: &mut [u8; 17600],
     rows: &mut [u64; 17600],
-    f: Found,
-) -> Found
+    f: SearchCounts,
+) -> SearchCounts
     requires { ⌜ (i < 4) × (n ≤ 400) ⌝ }
 {
     let g = within(f);
-    let h = search::scan_runs(given, i, xs, ys, n, qs, cs, g);
+    let h = search::scan_runs(fixed, i, xs, ys, n, qs, cs, g);
     mark(rows, g.pairs, h.pairs, 0);
     h
 }
 
 fn edge(
-    given: Given,
+    fixed: Fixed,
     i: u8,
     k: usize,
     xs: &[f64; 401],
@@ -61,19 +61,19 @@ fn edge(
     qs: &mut [f64; 17600],
     cs: &mut [u8; 17600],
     rows: &mut [u64; 17600],
-    f: Found,
-) -> Found
+    f: SearchCounts,
+) -> SearchCounts
     requires { ⌜ (i < 4) × (k < 400) ⌝ }
 {
     let g = within(f);
-    let h = search_edge::edge::edge_at(given, i, xs, ys, k, qs, cs, g);
+    let h = search_edge::edge::edge_at(fixed, i, xs, ys, k, qs, cs, g);
     mark(rows, g.pairs, h.pairs, k as u64 + 1);
     h
 }
 
 // All rows of one component.
 pub fn component(
-    given: Given,
+    fixed: Fixed,
     i: u8,
     n: usize,
     xs: &[f64; 401],
@@ -81,14 +81,14 @@ pub fn component(
     qs: &mut [f64; 17600],
     cs: &mut [u8; 17600],
     rows: &mut [u64; 17600],
-    f: Found,
-) -> Found
+    f: SearchCounts,
+) -> SearchCounts
     requires { ⌜ (i < 4) × (n ≤ 400) ⌝ }
 {
-    let mut g = grid(given, i, n, xs, ys, qs, cs, rows, f);
+    let mut g = grid(fixed, i, n, xs, ys, qs, cs, rows, f);
     let mut k = 0usize;
     while k < n {
-        g = edge(given, i, k, xs, ys, qs, cs, rows, g);
+        g = edge(fixed, i, k, xs, ys, qs, cs, rows, g);
         k += 1;
     }
     g

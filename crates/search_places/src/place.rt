@@ -1,15 +1,15 @@
 // What added one pair, within its row of samples: the refinement of a crossing, or a dip.
 use crate::record;
 use float::is_finite;
-use search_dip::pairs::Found;
 use search_edge::edge::Gap;
-use search_error::Given;
+use search_error::Fixed;
+use search_pairs::SearchCounts;
 ghost use Prim.Native.Nat.{_<_, _≤_, _+_};
 ghost use lib.ListN.{length};
 
 // A crossing between the samples l and l + 1.
 fn crossing(
-    given: Given,
+    fixed: Fixed,
     i: u8,
     xs: &[f64],
     ys: &[f64],
@@ -23,7 +23,7 @@ fn crossing(
     let x1 = xs[l + 1];
     let y0 = ys[l];
     let y1 = ys[l + 1];
-    let root = search_refine::refine::refine_bracket(given, i as usize, x0, x1, y0, y1);
+    let root = search_refine::refine::refine_bracket(fixed, i as usize, x0, x1, y0, y1);
     let is_q1 = record::gives(book, j, record::Q1, root.x);
     let is_whole = record::word(book, j, record::PART) == 0;
     is_q1 && is_whole && !((y0 < 0.0) == (y1 < 0.0))
@@ -43,7 +43,7 @@ fn is_part(book: &[u8; 1830400], j: usize, pairs: usize, q0: f64, q1: f64) -> bo
 
 // A dip between the samples a and b.
 fn dip(
-    given: Given,
+    fixed: Fixed,
     i: u8,
     xs: &[f64],
     ys: &[f64],
@@ -60,8 +60,8 @@ fn dip(
     let x1 = xs[b];
     let y0 = ys[a];
     let y1 = ys[b];
-    let none = Found { pairs: 0, evals: 0 };
-    let f = search_dip::dip::minimise_dip(given, i, x0, x1, y0, y1, &mut qs, &mut cs, none);
+    let none = SearchCounts { pairs: 0, evals: 0 };
+    let f = search_dip::dip::minimise_dip(fixed, i, x0, x1, y0, y1, &mut qs, &mut cs, none);
     is_part(book, j, f.pairs, qs[0], qs[1])
 }
 
@@ -81,7 +81,7 @@ fn begins(ys: &[f64], l: usize) -> bool
 
 // Whether the place that pair j has in a row of m samples gives that pair.
 fn in_row(
-    given: Given,
+    fixed: Fixed,
     i: u8,
     xs: &[f64],
     ys: &[f64],
@@ -100,20 +100,20 @@ fn in_row(
         return false;
     }
     match record::word(book, j, record::PLACE) {
-        0 => crossing(given, i, xs, ys, l, book, j),
-        1 => l > 0 && dip(given, i, xs, ys, l - 1, l + 1, book, j),
-        2 => ends(ys, m, l + 2) && dip(given, i, xs, ys, l, l + 1, book, j),
-        3 => begins(ys, l) && dip(given, i, xs, ys, l, l + 1, book, j),
+        0 => crossing(fixed, i, xs, ys, l, book, j),
+        1 => l > 0 && dip(fixed, i, xs, ys, l - 1, l + 1, book, j),
+        2 => ends(ys, m, l + 2) && dip(fixed, i, xs, ys, l, l + 1, book, j),
+        3 => begins(ys, l) && dip(fixed, i, xs, ys, l, l + 1, book, j),
         _ => false,
     }
 }
 
 // The branch that is at x and not at `out`: its samples towards its end, from the left to the right.
-fn in_edge(given: Given, i: u8, x: f64, y: f64, out: f64, book: &[u8; 1830400], j: usize) -> bool
+fn in_edge(fixed: Fixed, i: u8, x: f64, y: f64, out: f64, book: &[u8; 1830400], j: usize) -> bool
     requires { ⌜ (i < 4) × (j < 17600) ⌝ }
 {
     let e = search_edge::edge::bisect(
-        given,
+        fixed,
         i as usize,
         Gap {
             x,
@@ -125,21 +125,21 @@ fn in_edge(given: Given, i: u8, x: f64, y: f64, out: f64, book: &[u8; 1830400], 
     let mut xs = [0.0; 9];
     let mut ys = [0.0; 9];
     let lo = e.x;
-    let r = search_edge::edge::edge_row(given, i as usize, lo, e.y, x, y, 0, &mut xs, &mut ys);
+    let r = search_edge::edge::edge_row(fixed, i as usize, lo, e.y, x, y, 0, &mut xs, &mut ys);
     let m = r.len;
     if x < lo {
         let mut us = [0.0; 9];
         let mut vs = [0.0; 9];
         search_edge::edge::turn_round(&xs, m, &mut us);
         search_edge::edge::turn_round(&ys, m, &mut vs);
-        return in_row(given, i, &us, &vs, m, book, j);
+        return in_row(fixed, i, &us, &vs, m, book, j);
     }
-    in_row(given, i, &xs, &ys, m, book, j)
+    in_row(fixed, i, &xs, &ys, m, book, j)
 }
 
 // Pair j is from the grid's samples of component i, or from an edge between two of them.
 pub fn right(
-    given: Given,
+    fixed: Fixed,
     i: u8,
     n: usize,
     xs: &[f64; 401],
@@ -151,7 +151,7 @@ pub fn right(
 {
     let row = record::word(book, j, record::ROW);
     if row == 0 {
-        return in_row(given, i, xs, ys, n + 1, book, j);
+        return in_row(fixed, i, xs, ys, n + 1, book, j);
     }
     if row > n as u64 {
         return false;
@@ -163,7 +163,7 @@ pub fn right(
         return false;
     }
     if is_finite(y0) {
-        return in_edge(given, i, xs[k - 1], y0, xs[k], book, j);
+        return in_edge(fixed, i, xs[k - 1], y0, xs[k], book, j);
     }
-    in_edge(given, i, xs[k], y1, xs[k - 1], book, j)
+    in_edge(fixed, i, xs[k], y1, xs[k - 1], book, j)
 }

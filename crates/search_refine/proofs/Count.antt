@@ -1,4 +1,4 @@
--- Loops of turns, as the code runs them: a count goes up by the angles that each turn asks. Assumes nothing.
+-- Loops of steps, as the code runs them: a count goes up by the angles that each step asks. Assumes nothing.
 use mathlib.Core.Path.{_≡_, refl, sym, _∙_, ap}
 use mathlib.Core.List.{List, [], _++_}
 use Prim.Native.Nat.{ℕ, zero, suc, _+_, _-_, _≤_, _<_}
@@ -6,8 +6,8 @@ use native.Mathlib.Nat.{add-zero, zero-add}
 use native.Mathlib.Omega.{arith}
 use lib.ListN.{length, length-append}
 use lib.Ieee.{Float}
-use Rattle.search_definition.specs.Found.{Asked, asking, Turn, again, leave, run}
-use Rattle.search_definition.proofs.Turns.{taken, run-suc, run-zero}
+use Rattle.search_definition.specs.Found.{Asked, asking, Step, again, leave, run}
+use Rattle.search_definition.proofs.Steps.{taken, run-suc, run-zero}
 use Rattle.search_refine.specs.Counted.{Counted, result, total, counted}
 
 pub counted-asking : {R : Type 0} (n : ℕ) (l : List Float) (a : Asked R) → counted n (asking l a) ≡ counted (n + length l) a
@@ -19,30 +19,30 @@ counted-asking n l a = λ i. record { value = a .value; evals = sum i }
 pub counted-total : {R : Type 0} (a : Asked R) → counted 0 a ≡ total a
 counted-total a = λ i. record { value = a .value; evals = zero-add (length (a .asked)) i }
 
--- k is how many turns are left, of T in all
-module _ {S R : Type 0} (turn : S → Turn S R) (stop : S → R) (T : ℕ) (s : S) (n k : ℕ) (w : Counted R) (inv : counted n (run turn stop (T - k) s) ≡ w) where
+-- k is how many steps are left, of T in all
+module _ {S R : Type 0} (step : S → Step S R) (stop : S → R) (T : ℕ) (s : S) (n k : ℕ) (w : Counted R) (inv : counted n (run step stop (T - k) s) ≡ w) where
   module _ (h : k < T) where
-    one-turn : counted n (taken (run turn stop (T - (k + 1))) (turn s)) ≡ w
-    one-turn =
+    one-step : counted n (taken (run step stop (T - (k + 1))) (step s)) ≡ w
+    one-step =
         let m : T - k ≡ suc (T - (k + 1)) = omega arith in
-        ap (counted n) (sym (run-suc turn stop (T - (k + 1)) s) ∙ ap (λ (z : ℕ). run turn stop z s) (sym m)) ∙ inv
+        ap (counted n) (sym (run-suc step stop (T - (k + 1)) s) ∙ ap (λ (z : ℕ). run step stop z s) (sym m)) ∙ inv
 
-    pub turn-leaves : (l : List Float) (r : R) → turn s ≡ leave l r → result r (n + length l) ≡ w
-    turn-leaves l r e = sym (ap (λ (t : Turn S R). counted n (taken (run turn stop (T - (k + 1))) t)) e) ∙ one-turn
+    pub step-leaves : (l : List Float) (r : R) → step s ≡ leave l r → result r (n + length l) ≡ w
+    step-leaves l r e = sym (ap (λ (t : Step S R). counted n (taken (run step stop (T - (k + 1))) t)) e) ∙ one-step
 
-    -- a turn that leaves before it asks
-    pub turn-quits : (r : R) → turn s ≡ leave [] r → result r n ≡ w
-    turn-quits r e = (λ i. record { value = r; evals = sym (add-zero n) i }) ∙ turn-leaves [] r e
+    -- a step that leaves before it asks
+    pub step-quits : (r : R) → step s ≡ leave [] r → result r n ≡ w
+    step-quits r e = (λ i. record { value = r; evals = sym (add-zero n) i }) ∙ step-leaves [] r e
 
-    pub turn-goes : (l : List Float) (t : S) → turn s ≡ again l t → counted (n + length l) (run turn stop (T - (k + 1)) t) ≡ w
-    turn-goes l t e =
-        sym (counted-asking n l (run turn stop (T - (k + 1)) t))
-        ∙ sym (ap (λ (t : Turn S R). counted n (taken (run turn stop (T - (k + 1))) t)) e)
-        ∙ one-turn
+    pub step-goes : (l : List Float) (t : S) → step s ≡ again l t → counted (n + length l) (run step stop (T - (k + 1)) t) ≡ w
+    step-goes l t e =
+        sym (counted-asking n l (run step stop (T - (k + 1)) t))
+        ∙ sym (ap (λ (t : Step S R). counted n (taken (run step stop (T - (k + 1))) t)) e)
+        ∙ one-step
 
-  pub turns-end : T ≤ k → result (stop s) n ≡ w
-  turns-end h =
+  pub steps-end : T ≤ k → result (stop s) n ≡ w
+  steps-end h =
       let m : T - k ≡ 0 = omega arith in
       (λ i. record { value = stop s; evals = sym (add-zero n) i })
-      ∙ ap (counted n) (sym (run-zero turn stop s) ∙ ap (λ (z : ℕ). run turn stop z s) (sym m))
+      ∙ ap (counted n) (sym (run-zero step stop s) ∙ ap (λ (z : ℕ). run step stop z s) (sym m))
       ∙ inv

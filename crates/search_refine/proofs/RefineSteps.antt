@@ -1,4 +1,4 @@
--- One turn of refine_bracket, by what the code's tests and calls gave. Assumes nothing.
+-- One step of refine_bracket, by what the code's tests and calls gave. Assumes nothing.
 use mathlib.Core.Path.{_≡_, refl, sym, _∙_, ap}
 use mathlib.Core.Bool.{Bool, true, false, not, _||_, cond, Bool·beq}
 use mathlib.Core.List.{[], _∷_}
@@ -9,7 +9,7 @@ use lib.Ieee.{Float, lt}
 use Rattle.float.specs.Num.{_⊖_, _⊗_}
 use Rattle.float.specs.Number.{abs, is-finite}
 use Rattle.search_definition.specs.Found.{again, leave}
-use Rattle.search_definition.specs.Refine.{half, flat, narrow, negative, Bracket, next, near, narrowed, if-near, if-value, if-next, refine-turn}
+use Rattle.search_definition.specs.Refine.{half, flat, narrow, negative, Bracket, next, near, narrowed, if-near, if-value, if-next, refine-step}
 
 -- a test `!f(x)` by what f ensures of its result
 pub passed : {r : Bool} (b : Bool) → r ≡ b → not r ≡ false → b ≡ true
@@ -20,35 +20,35 @@ failed {r} b e t = sym e ∙ not-true r t
 
 -- p is the guess, as a call gave it
 module _ (f : Float → Float) (s : Bracket) {p : Float} (ep : p ≡ next s) where
-  guess-is : (b : Bool) → is-finite p ≡ b → refine-turn f s ≡ if-next f b p s
-  unfolding refine-turn
+  guess-is : (b : Bool) → is-finite p ≡ b → refine-step f s ≡ if-next f b p s
+  unfolding refine-step
   guess-is b g = ap (λ (z : Float). if-next f (is-finite z) z s) (sym ep) ∙ ap (λ (b : Bool). if-next f b p s) g
 
-  pub no-next : is-finite p ≡ false → refine-turn f s ≡ leave [] (s .x)
+  pub no-next : is-finite p ≡ false → refine-step f s ≡ leave [] (s .x)
   unfolding if-next
   no-next g = guess-is false g
 
   -- y is the value there
   module _ (g : is-finite p ≡ true) (y : Float) (e : y ≡ f p) where
-    value : (b : Bool) → is-finite y ≡ b → refine-turn f s ≡ if-value b p y s
+    value : (b : Bool) → is-finite y ≡ b → refine-step f s ≡ if-value b p y s
     unfolding if-next
     value b v =
         guess-is true g ∙ ap (λ (z : Float). if-value (is-finite z) p z s) (sym e) ∙ ap (λ (b : Bool). if-value b p y s) v
 
-    pub no-value : is-finite y ≡ false → refine-turn f s ≡ leave (p ∷ []) (s .x)
+    pub no-value : is-finite y ≡ false → refine-step f s ≡ leave (p ∷ []) (s .x)
     unfolding if-value
     no-value v = value false v
 
     module _ (v : is-finite y ≡ true) where
-      close : (b : Bool) → near s y ≡ b → refine-turn f s ≡ if-near b p y s
+      close : (b : Bool) → near s y ≡ b → refine-step f s ≡ if-near b p y s
       unfolding if-value
       close b n = value true v ∙ ap (λ (b : Bool). if-near b p y s) n
 
-      pub is-near : near s y ≡ true → refine-turn f s ≡ leave (p ∷ []) p
+      pub is-near : near s y ≡ true → refine-step f s ≡ leave (p ∷ []) p
       unfolding if-near
       is-near n = close true n
 
-      pub goes-on : (d : Bool) → Bool·beq (negative y) (negative (s .fa)) ≡ d → near s y ≡ false → refine-turn f s ≡ again (p ∷ []) (narrowed d p y s)
+      pub goes-on : (d : Bool) → Bool·beq (negative y) (negative (s .fa)) ≡ d → near s y ≡ false → refine-step f s ≡ again (p ∷ []) (narrowed d p y s)
       unfolding if-near
       goes-on d q n = close false n ∙ ap (λ (b : Bool). again (p ∷ []) (narrowed b p y s)) q
 

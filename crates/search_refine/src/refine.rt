@@ -1,13 +1,13 @@
 // refine_bracket: Illinois false position on a bracket whose ends differ in sign.
 use float::abs;
 use float::is_finite;
-use search_error::Given;
+use search_error::Fixed;
 use search_error::error_at;
 ghost use mathlib.Core.Path.{_≡_};
 ghost use Prim.Native.Nat.{_<_};
 ghost use Rattle.float.specs.Num.{_⊖_, _⊗_, _⊘_};
 ghost use Rattle.search_definition.specs.Refine.{refine-bracket};
-ghost use Rattle.search_error.specs.Given.{error-at};
+ghost use Rattle.search_error.specs.Fixed.{error-at};
 ghost use Rattle.search_refine.specs.Counted.{result, total};
 
 // An angle, and the evaluations made on the way to it.
@@ -23,10 +23,10 @@ pub fn chord_zero(a: f64, b: f64, fa: f64, fb: f64) -> f64
     (a * fb - b * fa) / (fb - fa)
 }
 
-// `side` is 1 where the last turn moved a (the Rust's -1) and 2 where it moved b (its 1).
-pub fn refine_bracket(given: Given, i: usize, a0: f64, b0: f64, fa0: f64, fb0: f64) -> Root
+// `side` is 1 where the last step moved a (the Rust's -1) and 2 where it moved b (its 1).
+pub fn refine_bracket(fixed: Fixed, i: usize, a0: f64, b0: f64, fa0: f64, fb0: f64) -> Root
     requires { ⌜ i < 4 ⌝ }
-    ensures { λ r. ⌜ result (r .x) (r .evals) ≡ total (refine-bracket (error-at given i) a0 b0 fa0 fb0) ⌝ }
+    ensures { λ r. ⌜ result (r .x) (r .evals) ≡ total (refine-bracket (error-at fixed i) a0 b0 fa0 fb0) ⌝ }
 {
     let mut a = a0;
     let mut b = b0;
@@ -40,7 +40,7 @@ pub fn refine_bracket(given: Given, i: usize, a0: f64, b0: f64, fa0: f64, fb0: f
         if !is_finite(next) {
             break;
         }
-        let fx = error_at(given, i, next);
+        let fx = error_at(fixed, i, next);
         evals += 1;
         if !is_finite(fx) {
             break;

@@ -13,8 +13,8 @@ use Rattle.search_definition.specs.Refine.{negative}
 use Rattle.search_definition.specs.Dip.{Point, refined, minimise-dip}
 use Rattle.search_definition.specs.Scan.{touch, alike, crosses, dips, falls-to, falls-back, if-dip, inner-dip, if-crosses, item, items, last-dip, first-dip, scan-samples}
 use Rattle.search_definition.proofs.Bounds.{scan-slots}
-use Rattle.search_dip.specs.State.{State, afterwards, point}
-use Rattle.search_dip.proofs.States.{after-both, after-nothing, after-two}
+use Rattle.search_pairs.specs.State.{State, afterwards, point}
+use Rattle.search_pairs.proofs.States.{after-both, after-nothing, after-two}
 
 -- ---- the tests
 module _ (y0 y1 y2 : Float) {a b c : Float} {r1 r2 r3 : Bool} (ea : a ≡ abs y0) (eb : b ≡ abs y1) (ec : c ≡ abs y2) where

@@ -1,9 +1,9 @@
 // scan_samples: sign changes and shallow dips along a row of finite samples, with touch = 0.5.
 use float::abs;
 use search_dip::dip::minimise_dip;
-use search_dip::pairs::Found;
-use search_dip::pairs::put_refined;
-use search_error::Given;
+use search_error::Fixed;
+use search_pairs::SearchCounts;
+use search_pairs::put_refined;
 ghost use mathlib.Core.Path.{_≡_};
 ghost use mathlib.Core.Bool.{_&&_};
 ghost use Prim.Native.Nat.{_<_, _≤_, _+_, _-_};
@@ -12,8 +12,8 @@ ghost use lib.ListN.{length};
 ghost use Rattle.search_definition.specs.Found.{Part, Place, Origin, component};
 ghost use Rattle.search_definition.specs.Scan as Scan;
 ghost use Rattle.search_definition.specs.Scan.{falls-to, falls-back, if-dip, item, last-dip, first-dip, scan-samples};
-ghost use Rattle.search_error.specs.Given.{error-at};
-ghost use Rattle.search_dip.specs.State.{point, row, state, afterwards};
+ghost use Rattle.search_error.specs.Fixed.{error-at};
+ghost use Rattle.search_pairs.specs.State.{point, row, state, afterwards};
 
 const TOUCH: f64 = 0.5;
 
@@ -62,7 +62,7 @@ pub fn falls_back(y0: f64, y1: f64) -> bool
 
 // The dip between two samples, where the test held.
 pub fn dip_if(
-    given: Given,
+    fixed: Fixed,
     i: u8,
     held: bool,
     a: f64,
@@ -71,20 +71,20 @@ pub fn dip_if(
     fb: f64,
     qs: &mut [f64],
     cs: &mut [u8],
-    f: Found,
-) -> Found
+    f: SearchCounts,
+) -> SearchCounts
     requires { ⌜ (i < 4) × (f .pairs ≤ 1000000) × (f .evals ≤ 1000000000) ⌝ }
-    ensures { λ r. ⌜ ((o : Part → Origin) → ((h : Part) → component (o h) ≡ i) → state (now (qs .exit)) (now (cs .exit)) r ≡ afterwards (state (now (qs .entry)) (now (cs .entry)) f) (if-dip (error-at given i) held o (point a fa) (point b fb))) ⌝ }
+    ensures { λ r. ⌜ ((o : Part → Origin) → ((h : Part) → component (o h) ≡ i) → state (now (qs .exit)) (now (cs .exit)) r ≡ afterwards (state (now (qs .entry)) (now (cs .entry)) f) (if-dip (error-at fixed i) held o (point a fa) (point b fb))) ⌝ }
 {
     if held {
-        return minimise_dip(given, i, a, b, fa, fb, qs, cs, f);
+        return minimise_dip(fixed, i, a, b, fa, fb, qs, cs, f);
     }
     f
 }
 
 // What is found between the samples l and l + 1 of a row that ends before `end`.
 pub fn scan_item(
-    given: Given,
+    fixed: Fixed,
     i: u8,
     xs: &[f64],
     ys: &[f64],
@@ -92,72 +92,72 @@ pub fn scan_item(
     end: usize,
     qs: &mut [f64],
     cs: &mut [u8],
-    f: Found,
-) -> Found
+    f: SearchCounts,
+) -> SearchCounts
     requires { ⌜ (i < 4) × (l + 1 < end) × (end ≤ length (now xs)) × (end ≤ length (now ys)) × (f .pairs ≤ 1000000) × (f .evals ≤ 1000000000) ⌝ }
-    ensures { λ r. ⌜ ((o : Place → Origin) → ((p : Place) → component (o p) ≡ i) → state (now (qs .exit)) (now (cs .exit)) r ≡ afterwards (state (now (qs .entry)) (now (cs .entry)) f) (item (error-at given i) o (row (now (xs .entry)) (now (ys .entry))) (end - (l + 2)) l)) ⌝ }
+    ensures { λ r. ⌜ ((o : Place → Origin) → ((p : Place) → component (o p) ≡ i) → state (now (qs .exit)) (now (cs .exit)) r ≡ afterwards (state (now (qs .entry)) (now (cs .entry)) f) (item (error-at fixed i) o (row (now (xs .entry)) (now (ys .entry))) (end - (l + 2)) l)) ⌝ }
 {
     let x0 = xs[l];
     let y0 = ys[l];
     let x1 = xs[l + 1];
     let y1 = ys[l + 1];
     if crosses(y0, y1) {
-        return put_refined(given, i, x0, x1, y0, y1, qs, cs, f);
+        return put_refined(fixed, i, x0, x1, y0, y1, qs, cs, f);
     }
     if l + 2 < end {
         let x2 = xs[l + 2];
         let y2 = ys[l + 2];
         let held = dips(y0, y1, y2);
-        return dip_if(given, i, held, x0, x2, y0, y2, qs, cs, f);
+        return dip_if(fixed, i, held, x0, x2, y0, y2, qs, cs, f);
     }
     f
 }
 
 pub fn last_dip(
-    given: Given,
+    fixed: Fixed,
     i: u8,
     xs: &[f64],
     ys: &[f64],
     l: usize,
     qs: &mut [f64],
     cs: &mut [u8],
-    f: Found,
-) -> Found
+    f: SearchCounts,
+) -> SearchCounts
     requires { ⌜ (i < 4) × (l + 1 < length (now xs)) × (l + 1 < length (now ys)) × (f .pairs ≤ 1000000) × (f .evals ≤ 1000000000) ⌝ }
-    ensures { λ r. ⌜ ((o : Place → Origin) → ((p : Place) → component (o p) ≡ i) → state (now (qs .exit)) (now (cs .exit)) r ≡ afterwards (state (now (qs .entry)) (now (cs .entry)) f) (last-dip (error-at given i) o (row (now (xs .entry)) (now (ys .entry))) l)) ⌝ }
+    ensures { λ r. ⌜ ((o : Place → Origin) → ((p : Place) → component (o p) ≡ i) → state (now (qs .exit)) (now (cs .exit)) r ≡ afterwards (state (now (qs .entry)) (now (cs .entry)) f) (last-dip (error-at fixed i) o (row (now (xs .entry)) (now (ys .entry))) l)) ⌝ }
 {
     let x0 = xs[l];
     let y0 = ys[l];
     let x1 = xs[l + 1];
     let y1 = ys[l + 1];
     let held = falls_to(y0, y1);
-    dip_if(given, i, held, x0, x1, y0, y1, qs, cs, f)
+    dip_if(fixed, i, held, x0, x1, y0, y1, qs, cs, f)
 }
 
 pub fn first_dip(
-    given: Given,
+    fixed: Fixed,
     i: u8,
     xs: &[f64],
     ys: &[f64],
     l: usize,
     qs: &mut [f64],
     cs: &mut [u8],
-    f: Found,
-) -> Found
+    f: SearchCounts,
+) -> SearchCounts
     requires { ⌜ (i < 4) × (l + 1 < length (now xs)) × (l + 1 < length (now ys)) × (f .pairs ≤ 1000000) × (f .evals ≤ 1000000000) ⌝ }
-    ensures { λ r. ⌜ ((o : Place → Origin) → ((p : Place) → component (o p) ≡ i) → state (now (qs .exit)) (now (cs .exit)) r ≡ afterwards (state (now (qs .entry)) (now (cs .entry)) f) (first-dip (error-at given i) o (row (now (xs .entry)) (now (ys .entry))) l)) ⌝ }
+    ensures { λ r. ⌜ ((o : Place → Origin) → ((p : Place) → component (o p) ≡ i) → state (now (qs .exit)) (now (cs .exit)) r ≡ afterwards (state (now (qs .entry)) (now (cs .entry)) f) (first-dip (error-at fixed i) o (row (now (xs .entry)) (now (ys .entry))) l)) ⌝ }
 {
     let x0 = xs[l];
     let y0 = ys[l];
     let x1 = xs[l + 1];
     let y1 = ys[l + 1];
     let held = falls_back(y0, y1);
-    dip_if(given, i, held, x0, x1, y0, y1, qs, cs, f)
+    dip_if(fixed, i, held, x0, x1, y0, y1, qs, cs, f)
 }
 
 // m samples from s on.
 pub fn scan_samples(
-    given: Given,
+    fixed: Fixed,
     i: u8,
     xs: &[f64],
     ys: &[f64],
@@ -165,10 +165,10 @@ pub fn scan_samples(
     m: usize,
     qs: &mut [f64],
     cs: &mut [u8],
-    f: Found,
-) -> Found
+    f: SearchCounts,
+) -> SearchCounts
     requires { ⌜ (i < 4) × (s + m ≤ length (now xs)) × (s + m ≤ length (now ys)) × (m ≤ 401) × (f .pairs ≤ 900000) × (f .evals ≤ 900000000) ⌝ }
-    ensures { λ r. ⌜ ((o : Place → Origin) → ((p : Place) → component (o p) ≡ i) → state (now (qs .exit)) (now (cs .exit)) r ≡ afterwards (state (now (qs .entry)) (now (cs .entry)) f) (scan-samples (error-at given i) o (row (now (xs .entry)) (now (ys .entry))) s m)) ⌝ }
+    ensures { λ r. ⌜ ((o : Place → Origin) → ((p : Place) → component (o p) ≡ i) → state (now (qs .exit)) (now (cs .exit)) r ≡ afterwards (state (now (qs .entry)) (now (cs .entry)) f) (scan-samples (error-at fixed i) o (row (now (xs .entry)) (now (ys .entry))) s m)) ⌝ }
 {
     if m < 2 {
         return f;
@@ -177,9 +177,9 @@ pub fn scan_samples(
     let mut g = f;
     let mut l = s;
     while l + 1 < end {
-        g = scan_item(given, i, xs, ys, l, end, qs, cs, g);
+        g = scan_item(fixed, i, xs, ys, l, end, qs, cs, g);
         l += 1;
     }
-    g = last_dip(given, i, xs, ys, end - 2, qs, cs, g);
-    first_dip(given, i, xs, ys, s, qs, cs, g)
+    g = last_dip(fixed, i, xs, ys, end - 2, qs, cs, g);
+    first_dip(fixed, i, xs, ys, s, qs, cs, g)
 }

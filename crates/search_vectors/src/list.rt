@@ -1,5 +1,5 @@
 // The list of the search, as one call gives it.
-use search::Found;
+use search::SearchCounts;
 use search_places::record;
 ghost use Prim.Native.Nat.{_≤_};
 
@@ -26,7 +26,7 @@ pub fn check(
     n: usize,
     m: usize,
     tally: &mut [u64; 64],
-) -> Found
+) -> SearchCounts
     requires { ⌜ m ≤ 17600 ⌝ }
 {
     let mut qs = [0.0; 17600];

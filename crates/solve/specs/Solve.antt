@@ -21,7 +21,7 @@ use Rattle.families.specs.Spherical.{spherical}
 use Rattle.families.specs.ThreeParallelTwoIntersecting.{three-parallel-two-intersecting}
 use Rattle.families.specs.ThreeParallel.{three-parallel}
 use Rattle.two_parallel.specs.TwoParallel.{two-parallel, evaluations}
-use Rattle.two_parallel.specs.declared.Counted.{Counted}
+use Rattle.two_parallel.specs.declared.AnswerCounts.{AnswerCounts}
 use Rattle.refusals.specs.Judge.{judge, refusal-9}
 use Rattle.solve.specs.declared.Solved.{Solved}
 
@@ -74,6 +74,6 @@ solve family n arm pose room =
     record { refusal = cond (eqb refused 0) (refusal-9 count room) refused; answers = count; evals = f .evals }
 
 -- what solving for a family leaves: its answers in the lists, and the two counts
-pub record Solves (f : Full) (angles₀ : List Float) (flags₀ : List ℕ) (angles : List Float) (flags : List ℕ) (r : Counted) : Type 0 where
+pub record Solves (f : Full) (angles₀ : List Float) (flags₀ : List ℕ) (angles : List Float) (flags : List ℕ) (r : AnswerCounts) : Type 0 where
   pub wrote : Wrote (f .answers) angles₀ flags₀ angles flags (r .answers)
   pub counted : r .evals ≡ f .evals

@@ -6,7 +6,7 @@ use linear::Matrix3;
 use linear::Vector3;
 use refusals::judge;
 use refusals::refusal_9;
-use two_parallel::Counted;
+use two_parallel::AnswerCounts;
 ghost use mathlib.Core.Path.{_≡_};
 ghost use mathlib.Core.Bool.{true};
 ghost use Prim.Native.Nat.{_≤_};
@@ -25,10 +25,10 @@ pub struct Solved {
     pub evals: u64,
 }
 
-fn without_search(answers: usize) -> Counted
+fn without_search(answers: usize) -> AnswerCounts
     ensures { λ r. ⌜ (r .answers ≡ answers) × (r .evals ≡ 0) ⌝ }
 {
-    Counted {
+    AnswerCounts {
         answers: answers,
         evals: 0,
     }
@@ -44,7 +44,7 @@ fn by_family(
     tolerance: f64,
     angles: &mut [f64],
     flags: &mut [u8],
-) -> Counted
+) -> AnswerCounts
     requires { ⌜ (1 ≤ family) × (family ≤ 6) × (samples-fit family n ≡ true) ⌝ }
     ensures { λ f. ⌜ Solves (by-family family n r p kin tolerance) (now (angles .entry)) (now (flags .entry)) (now (angles .exit)) (now (flags .exit)) f ⌝ }
 {

@@ -15,19 +15,19 @@ use Rattle.vector.specs.declared.Vector3.{Vector3}
 use Rattle.pairset.specs.PairSet4.{size}
 use Rattle.pairset.specs.declared.PairSet4.{PairSet4}
 use Rattle.kinematics.specs.declared.Kinematics.{Kinematics}
-use Rattle.search_definition.specs.Found.{Entry, Out, nothing, Pair, component, pair-of, pairs}
+use Rattle.search_definition.specs.Found.{Entry, Out, nothing, SearchPair, component, pair-of, pairs}
 use Rattle.search_definition.specs.Search.{search-1d-bracketed}
 use Rattle.search_definition.specs.Demand.{Demand3, blank}
 use Rattle.search_definition.proofs.Demand.{demand-3}
-use Rattle.search_error.specs.Error.{error-i, answers}
-use Rattle.search_error.specs.Given.{given, turned, t64, error-at}
-use Rattle.search_error.specs.declared.Given.{Given}
-use Rattle.search_error.proofs.Once.{once, t64-same}
+use Rattle.search_error.specs.Error.{error-i, t64-count}
+use Rattle.search_error.specs.Fixed.{fixed, given-q1, t64, error-at}
+use Rattle.search_error.specs.declared.Fixed.{Fixed}
+use Rattle.search_error.proofs.SameError.{error-at-same, t64-same}
 use Rattle.search_error.proofs.Strict.{strict}
-use Rattle.search_dip.specs.State.{angle-of, component-of}
+use Rattle.search_pairs.specs.State.{angle-of, component-of}
 use Rattle.search.specs.Searched.{Searched, search-within}
 use Rattle.search.specs.Demand.{two-parallel-search}
-use Rattle.search_dip.specs.declared.pairs.Found.{Found}
+use Rattle.search_pairs.specs.declared.SearchCounts.{SearchCounts}
 use Rattle.search.proofs.Listed.{same-error}
 use Rattle.two_parallel_answers.specs.Pairs.{pair, zipped, first-pairs, Answered, AllAnswered}
 
@@ -35,10 +35,10 @@ use Rattle.two_parallel_answers.specs.Pairs.{pair, zipped, first-pairs, Answere
 zipped-map : (l : List Entry) → zipped (map angle-of l) (map component-of l) ≡ map pair-of l
 unfolding zipped pair-of
 zipped-map [] = refl
-zipped-map (e ∷ l) = ap (λ (t : List Pair). pair (angle-of e) (component-of e) ∷ t) (zipped-map l)
+zipped-map (e ∷ l) = ap (λ (t : List SearchPair). pair (angle-of e) (component-of e) ∷ t) (zipped-map l)
 
 -- ---- after a search whose pairs all fit
-module _ (o : Out) (q : List Float) (c : List ℕ) {q′ : List Float} {c′ : List ℕ} {r : Found} (s : Searched o q c q′ c′ r) (hq : length (o .found) ≤ length q) (hc : length (o .found) ≤ length c) where
+module _ (o : Out) (q : List Float) (c : List ℕ) {q′ : List Float} {c′ : List ℕ} {r : SearchCounts} (s : Searched o q c q′ c′ r) (hq : length (o .found) ≤ length q) (hc : length (o .found) ≤ length c) where
   angles-first : take (r .pairs) q′ ≡ map angle-of (o .found)
   angles-first =
       let m : length (map angle-of (o .found)) ≡ length (o .found) = length-map (o .found) angle-of in
@@ -64,8 +64,8 @@ module _ (o : Out) (q : List Float) (c : List ℕ) {q′ : List Float} {c′ : L
 
 -- ---- after the search of two_parallel
 module _ (kin : Kinematics) (r-06 : Matrix) (p-0t : Vector3) (n : ℕ) where
-  demand : Demand3 (error-i kin r-06 p-0t) n (answers kin r-06 p-0t)
-  demand = demand-3 (error-i kin r-06 p-0t) n (answers kin r-06 p-0t) (strict kin r-06 p-0t)
+  demand : Demand3 (error-i kin r-06 p-0t) n (t64-count kin r-06 p-0t)
+  demand = demand-3 (error-i kin r-06 p-0t) n (t64-count kin r-06 p-0t) (strict kin r-06 p-0t)
 
   pub few : length (two-parallel-search kin r-06 p-0t n .found) ≤ 44 * n
   few = go (leb n 400)
@@ -81,19 +81,19 @@ module _ (kin : Kinematics) (r-06 : Matrix) (p-0t : Vector3) (n : ℕ) where
       go true e = omega (arith, demand .listed, leb-true n 400 e)
       go false e = omega arith
 
-  usable : (j : ℕ) → j < length (two-parallel-search kin r-06 p-0t n .found) → component (getD (two-parallel-search kin r-06 p-0t n .found) j blank .origin) < answers kin r-06 p-0t (getD (two-parallel-search kin r-06 p-0t n .found) j blank .q1)
+  usable : (j : ℕ) → j < length (two-parallel-search kin r-06 p-0t n .found) → component (getD (two-parallel-search kin r-06 p-0t n .found) j blank .origin) < t64-count kin r-06 p-0t (getD (two-parallel-search kin r-06 p-0t n .found) j blank .q1)
   usable j = go (leb n 400)
     where
       go : (b : Bool)
           → j < length (cond b (search-1d-bracketed (error-i kin r-06 p-0t) n) nothing .found)
-          → component (getD (cond b (search-1d-bracketed (error-i kin r-06 p-0t) n) nothing .found) j blank .origin) < answers kin r-06 p-0t (getD (cond b (search-1d-bracketed (error-i kin r-06 p-0t) n) nothing .found) j blank .q1)
+          → component (getD (cond b (search-1d-bracketed (error-i kin r-06 p-0t) n) nothing .found) j blank .origin) < t64-count kin r-06 p-0t (getD (cond b (search-1d-bracketed (error-i kin r-06 p-0t) n) nothing .found) j blank .q1)
       go true h = demand .usable j h .answered
       go false h = absurd (not-suc-le-zero h)
 
   -- as the call has it: `g` is what is computed once
-  module _ {g : Given} (e : g ≡ given kin r-06 p-0t) (q : List Float) (c : List ℕ) {q′ : List Float} {c′ : List ℕ} {r : Found} (w : Searched (search-within (error-at g) n) q c q′ c′ r) (lq : length q ≡ 17600) (lc : length c ≡ 17600) where
+  module _ {g : Fixed} (e : g ≡ fixed kin r-06 p-0t) (q : List Float) (c : List ℕ) {q′ : List Float} {c′ : List ℕ} {r : SearchCounts} (w : Searched (search-within (error-at g) n) q c q′ c′ r) (lq : length q ≡ 17600) (lc : length c ≡ 17600) where
     searched : Searched (two-parallel-search kin r-06 p-0t n) q c q′ c′ r
-    searched = same-error n q c (ap error-at e ∙ once kin r-06 p-0t) w
+    searched = same-error n q c (ap error-at e ∙ error-at-same kin r-06 p-0t) w
 
     room : length (two-parallel-search kin r-06 p-0t n .found) ≤ length q
     room = omega (arith, fits)
@@ -106,7 +106,7 @@ module _ (kin : Kinematics) (r-06 : Matrix) (p-0t : Vector3) (n : ℕ) where
 
     pub all-answered : AllAnswered g (r .pairs) q′ c′
     all-answered =
-        subst (λ (x : Given). AllAnswered x (r .pairs) q′ c′) (sym e)
+        subst (λ (x : Fixed). AllAnswered x (r .pairs) q′ c′) (sym e)
         (λ j h. rw (t64-same kin r-06 p-0t, angle-held (two-parallel-search kin r-06 p-0t n) q c searched room room′ j h, component-held (two-parallel-search kin r-06 p-0t n) q c searched room room′ j h)
         (usable j (omega (arith, searched .pairs))))
 

@@ -1,3 +1,3 @@
-pub mod Once
+pub mod SameAnswer
 pub mod Held
 pub mod AtMost44

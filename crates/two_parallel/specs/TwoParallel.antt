@@ -15,7 +15,7 @@ use Rattle.pairset.specs.declared.Pair as Angles
 use Rattle.subproblems.specs.Subproblem1.{subproblem1-within}
 use Rattle.kinematics.specs.declared.Kinematics.{Kinematics}
 use Rattle.answers.specs.declared.Answer.{Answer}
-use Rattle.search_definition.specs.Found.{Pair, pairs}
+use Rattle.search_definition.specs.Found.{SearchPair, pairs}
 use Rattle.families_shared.specs.Place.{p-16}
 use Rattle.search_error.specs.Error.{t64-given-q1}
 use Rattle.search.specs.Demand.{two-parallel-search}
@@ -46,7 +46,7 @@ module _ (r-06 : Matrix) (p-0t : Vector3) (kin : Kinematics) (tolerance : Float)
       }
 
   -- the answer of the pair (q1, i). t64[i] is there for every pair of the search (proofs/Held.antt).
-  unfoldable pub answer-of : Pair → Answer
+  unfoldable pub answer-of : SearchPair → Answer
   answer-of pair = answer (pair .q1) (at (t64-given-q1 kin r-06 p-0t (pair .q1)) (pair .i))
 
   -- an answer for each pair of the search, in the search's order

@@ -3,14 +3,14 @@
 use kinematics::Kinematics;
 use linear::Matrix3;
 use linear::Vector3;
-use search_error::Given;
+use search_error::Fixed;
 use two_parallel_answers::write_answers;
 ghost use mathlib.Core.Path.{_≡_};
 ghost use Rattle.answers.specs.Written.{Wrote};
 ghost use Rattle.two_parallel.specs.TwoParallel.{two-parallel, evaluations};
 
 // How many answers there are, and how often the search's error was evaluated.
-pub struct Counted {
+pub struct AnswerCounts {
     pub answers: usize,
     pub evals: u64,
 }
@@ -25,16 +25,16 @@ pub fn two_parallel(
     n: usize,
     angles: &mut [f64],
     flags: &mut [u8],
-) -> Counted
+) -> AnswerCounts
     ensures { λ r. ⌜ Wrote (two-parallel «r_06» «p_0t» kin tolerance n) (now (angles .entry)) (now (flags .entry)) (now (angles .exit)) (now (flags .exit)) (r .answers) ⌝ }
     ensures { λ r. ⌜ r .evals ≡ evaluations «r_06» «p_0t» kin n ⌝ }
 {
     let mut qs = [0.0; 17600];
     let mut cs = [0u8; 17600];
-    let given = Given::new(kin, r_06, p_0t);
-    let f = search::search_1d_bracketed(given, n, &mut qs, &mut cs);
-    let answers = write_answers(given, tolerance, &qs, &cs, f.pairs, angles, flags);
-    Counted {
+    let fixed = Fixed::new(kin, r_06, p_0t);
+    let f = search::search_1d_bracketed(fixed, n, &mut qs, &mut cs);
+    let answers = write_answers(fixed, tolerance, &qs, &cs, f.pairs, angles, flags);
+    AnswerCounts {
         answers: answers,
         evals: f.evals,
     }

@@ -7,10 +7,10 @@ use native.Mathlib.Nat.{not-suc-le-zero}
 use lib.Ieee.{Float, nan}
 use lib.ListN.{length, take, getD}
 use lib.Seq.{getD-take, length-take-le}
-use Rattle.search_definition.specs.Found.{Pair}
+use Rattle.search_definition.specs.Found.{SearchPair}
 use Rattle.two_parallel_answers.specs.Pairs.{pair, zipped, first-pairs}
 
-zipped-at : (qs : List Float) (cs : List ℕ) (j : ℕ) (d : Pair) → j < length qs → j < length cs → getD (zipped qs cs) j d ≡ pair (getD qs j nan) (getD cs j 0)
+zipped-at : (qs : List Float) (cs : List ℕ) (j : ℕ) (d : SearchPair) → j < length qs → j < length cs → getD (zipped qs cs) j d ≡ pair (getD qs j nan) (getD cs j 0)
 unfolding zipped
 zipped-at [] cs j d h k = absurd (not-suc-le-zero h)
 zipped-at (q ∷ qs) [] j d h k = absurd (not-suc-le-zero k)
@@ -27,7 +27,7 @@ module _ (m : ℕ) (qs : List Float) (cs : List ℕ) (hq : m ≤ length qs) (hc 
   pub first-long : length (first-pairs m qs cs) ≡ m
   first-long = zipped-long (take m qs) (take m cs) (length-take-le m qs hq ∙ sym (length-take-le m cs hc)) ∙ length-take-le m qs hq
 
-  pub first-at : (j : ℕ) (d : Pair) → j < m → getD (first-pairs m qs cs) j d ≡ pair (getD qs j nan) (getD cs j 0)
+  pub first-at : (j : ℕ) (d : SearchPair) → j < m → getD (first-pairs m qs cs) j d ≡ pair (getD qs j nan) (getD cs j 0)
   first-at j d h =
       let a : length (take m qs) ≡ m = length-take-le m qs hq in
       let b : length (take m cs) ≡ m = length-take-le m cs hc in

@@ -4,26 +4,26 @@ use Prim.Native.Nat.{ℕ, _<_}
 use lib.Ieee.{Float, nan}
 use lib.ListN.{take, getD}
 use Rattle.pairset.specs.PairSet4.{size}
-use Rattle.search_definition.specs.Found.{Pair}
-use Rattle.search_error.specs.Given.{turned, t64}
-use Rattle.search_error.specs.declared.Given.{Given}
+use Rattle.search_definition.specs.Found.{SearchPair}
+use Rattle.search_error.specs.Fixed.{given-q1, t64}
+use Rattle.search_error.specs.declared.Fixed.{Fixed}
 
-abbrev pub pair : Float → ℕ → Pair
+abbrev pub pair : Float → ℕ → SearchPair
 pair q1 i = record { q1 = q1; i = i }
 
-unfoldable pub zipped : List Float → List ℕ → List Pair
+unfoldable pub zipped : List Float → List ℕ → List SearchPair
 zipped [] cs = []
 zipped (q ∷ qs) [] = []
 zipped (q ∷ qs) (i ∷ cs) = pair q i ∷ zipped qs cs
 
 -- the first m
-abbrev pub first-pairs : ℕ → List Float → List ℕ → List Pair
+abbrev pub first-pairs : ℕ → List Float → List ℕ → List SearchPair
 first-pairs m qs cs = zipped (take m qs) (take m cs)
 
 -- component i is below the number of subproblem 6's answers at q1
-abbrev pub Answered : Given → Float → ℕ → Type 0
-Answered g q1 i = i < size (t64 g (turned g q1))
+abbrev pub Answered : Fixed → Float → ℕ → Type 0
+Answered g q1 i = i < size (t64 g (given-q1 g q1))
 
 -- and that of each of the first m
-abbrev pub AllAnswered : Given → ℕ → List Float → List ℕ → Type 0
+abbrev pub AllAnswered : Fixed → ℕ → List Float → List ℕ → Type 0
 AllAnswered g m qs cs = (j : ℕ) → j < m → Answered g (getD qs j nan) (getD cs j 0)

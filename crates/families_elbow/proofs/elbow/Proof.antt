@@ -12,7 +12,7 @@ use Rattle.subproblems.specs.declared.Solved2.{Solved2}
 use Rattle.kinematics.specs.declared.Kinematics.{Kinematics}
 use Rattle.answers.specs.Written.{Wrote}
 use Rattle.answers.proofs.Laws.{by-name}
-use Rattle.answers.proofs.Turns.{Turns, start, again, small-sum, end, angles-kept, flags-kept}
+use Rattle.answers.proofs.Steps.{Steps, start, again, small-sum, end, angles-kept, flags-kept}
 use Rattle.families_elbow.specs.Elbow.{theta3, elbow-q3, elbow}
 use Rattle.families_shared.proofs.Few.{few-of}
 use Rattle.families_elbow.proofs.Few.{elbow-q3-few}
@@ -21,7 +21,7 @@ use Rattle.families_elbow.proofs.elbow.Tie as tie
 
 abbrev Inv-loop : tie.InvT-loop
 Inv-loop kin unit tolerance d-inner theta14 q1 q5 q6 is-ls angles₀ flags₀ set joined n k₀ i₀ angles flags k i =
-    Turns (elbow-q3 kin tolerance d-inner theta14 q1 q5 q6 joined) (get-all set) n 1 angles₀ flags₀ angles flags k i
+    Steps (elbow-q3 kin tolerance d-inner theta14 q1 q5 q6 joined) (get-all set) n 1 angles₀ flags₀ angles flags k i
 
 abbrev μ-loop : tie.MeasureT-loop
 μ-loop kin unit tolerance d-inner theta14 q1 q5 q6 is-ls angles₀ flags₀ set joined n k₀ i₀ angles flags k i = n - i
@@ -35,7 +35,7 @@ met : (kin : Kinematics) (tolerance : Float) (d-inner : Vector3) (theta14 q1 q5 
     → t ≡ theta3 kin d-inner
     → joined ≡ (is-ls || t .«is_ls»)
     → n ≤ i
-    → Turns (elbow-q3 kin tolerance d-inner theta14 q1 q5 q6 joined) (get-all (t .set)) n 1 a₀ f₀ a f k i
+    → Steps (elbow-q3 kin tolerance d-inner theta14 q1 q5 q6 joined) (get-all (t .set)) n 1 a₀ f₀ a f k i
     → Wrote (elbow kin tolerance d-inner theta14 q1 q5 q6 is-ls) a₀ f₀ a f k
 unfolding elbow
 met kin tolerance d-inner theta14 q1 q5 q6 is-ls e1 e2 h t = by-name (cc) (end _ _ _ 1 h t)
@@ -50,8 +50,8 @@ elbow-q3-requires c κs =
 add-k : tie.Need-add-k Inv-loop μ-loop
 add-k c =
     let called = c .before .before .before .before in
-    let turned = called .before .before .before .before .before .before in
-    omega (arith, small-sum _ _ _ 1 (elbow-q3-few _ _ _ _ _ _ _ _) (turned .before .loop .inv) (called .elbow-q3 .ensures))
+    let tested = called .before .before .before .before .before .before in
+    omega (arith, small-sum _ _ _ 1 (elbow-q3-few _ _ _ _ _ _ _ _) (tested .before .loop .inv) (called .elbow-q3 .ensures))
 
 loop-again : tie.Need-loop-again Inv-loop μ-loop
 loop-again c =
@@ -59,8 +59,8 @@ loop-again c =
     let on = called .before .before .before in
     let at = on .before in
     let picked = at .before in
-    let turned = picked .before in
-    again _ _ _ _ _ (elbow-q3-few _ _ _ _ _ _ _ _) (turned .before .loop .inv) (turned .loop-test .taken) (picked .at .ensures)
+    let tested = picked .before in
+    again _ _ _ _ _ (elbow-q3-few _ _ _ _ _ _ _ _) (tested .before .loop .inv) (tested .loop-test .taken) (picked .at .ensures)
     (at .rest .ensures) (on .rest2 .ensures)
     (called .elbow-q3 .ensures)
 

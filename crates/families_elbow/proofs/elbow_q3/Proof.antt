@@ -23,7 +23,7 @@ use Rattle.families_elbow.proofs.elbow_q3.Tie as tie
 
 met : (kin : Kinematics) (tolerance : Float) (d-inner : Vector3) (theta14 q1 q5 q6 : Float) (is-ls : Bool) (q3 : Float)
     {r : Matrix}
-    {turned p : Vector3}
+    {rotated p : Vector3}
     {s : Solved1}
     {q4 : Float}
     {joined : Bool}
@@ -31,8 +31,8 @@ met : (kin : Kinematics) (tolerance : Float) (d-inner : Vector3) (theta14 q1 q5 
     {f₀ f : List ℕ}
     {n : ℕ}
     → r ≡ rot (kin .h2) q3
-    → turned ≡ apply r (kin .p3)
-    → p ≡ kin .p2 +ᵛ turned
+    → rotated ≡ apply r (kin .p3)
+    → p ≡ kin .p2 +ᵛ rotated
     → s ≡ subproblem1-within p d-inner (kin .h2) tolerance
     → q4 ≡ wrap-to-pi (theta14 ⊖ s .theta ⊖ q3)
     → joined ≡ (is-ls || s .«is_ls»)

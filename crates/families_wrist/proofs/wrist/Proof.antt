@@ -15,7 +15,7 @@ use Rattle.subproblems.specs.declared.Solved2.{Solved2}
 use Rattle.kinematics.specs.declared.Kinematics.{Kinematics}
 use Rattle.answers.specs.Written.{Wrote}
 use Rattle.answers.proofs.Laws.{by-name}
-use Rattle.answers.proofs.Turns.{Turns, start, again, small-sum, end, angles-kept, flags-kept}
+use Rattle.answers.proofs.Steps.{Steps, start, again, small-sum, end, angles-kept, flags-kept}
 use Rattle.families_wrist.specs.Wrist.{t5, wrist-q5, wrist}
 use Rattle.families_shared.proofs.Few.{few-of}
 use Rattle.families_wrist.proofs.Few.{wrist-q5-few}
@@ -24,7 +24,7 @@ use Rattle.families_wrist.proofs.wrist.Tie as tie
 
 abbrev Inv-loop : tie.InvT-loop
 Inv-loop kin unit tolerance r-36 q1 q2 q3 is-ls angles₀ flags₀ set joined to from n k₀ i₀ angles flags k i =
-    Turns (wrist-q5 kin tolerance r-36 q1 q2 q3 joined) (get-all set) n 1 angles₀ flags₀ angles flags k i
+    Steps (wrist-q5 kin tolerance r-36 q1 q2 q3 joined) (get-all set) n 1 angles₀ flags₀ angles flags k i
 
 abbrev μ-loop : tie.MeasureT-loop
 μ-loop kin unit tolerance r-36 q1 q2 q3 is-ls angles₀ flags₀ set joined to from n k₀ i₀ angles flags k i = n - i
@@ -33,7 +33,7 @@ met : (kin : Kinematics) (tolerance : Float) (r-36 : Matrix) (q1 q2 q3 : Float) 
     → t ≡ t5 kin r-36
     → joined ≡ (is-ls || t .«is_ls»)
     → n ≤ i
-    → Turns (wrist-q5 kin tolerance r-36 q1 q2 q3 joined) (get-all (t .set)) n 1 a₀ f₀ a f k i
+    → Steps (wrist-q5 kin tolerance r-36 q1 q2 q3 joined) (get-all (t .set)) n 1 a₀ f₀ a f k i
     → Wrote (wrist kin tolerance r-36 q1 q2 q3 is-ls) a₀ f₀ a f k
 unfolding wrist
 met kin tolerance r-36 q1 q2 q3 is-ls n e e′ h t = by-name (cc) (end _ _ n 1 h t)
@@ -44,15 +44,15 @@ loop-holds c = start _ _ _ _ _ _ (search) (search few-of)
 wrist-q5-requires : tie.Need-wrist-q5-requires Inv-loop μ-loop
 wrist-q5-requires c κs =
     let sized = c .before .before .before .before .before .before .before in
-    let turned = sized .before .before in
-    let start = turned .before .before .before .before .before .before in
-    (start .pre, (turned .before .apply .ensures, rw (turned .transpose .ensures) at (sized .before .apply2 .ensures)))
+    let transposed = sized .before .before in
+    let start = transposed .before .before .before .before .before .before in
+    (start .pre, (transposed .before .apply .ensures, rw (transposed .transpose .ensures) at (sized .before .apply2 .ensures)))
 
 add-k : tie.Need-add-k Inv-loop μ-loop
 add-k c =
     let called = c .before .before .before .before in
-    let turned = called .before .before .before .before .before .before in
-    omega (arith, small-sum _ _ _ 1 (wrist-q5-few _ _ _ _ _ _ _) (turned .before .loop .inv) (called .wrist-q5 .ensures))
+    let tested = called .before .before .before .before .before .before in
+    omega (arith, small-sum _ _ _ 1 (wrist-q5-few _ _ _ _ _ _ _) (tested .before .loop .inv) (called .wrist-q5 .ensures))
 
 loop-again : tie.Need-loop-again Inv-loop μ-loop
 loop-again c =
@@ -60,8 +60,8 @@ loop-again c =
     let on = called .before .before .before in
     let at = on .before in
     let picked = at .before in
-    let turned = picked .before in
-    again _ _ _ _ _ (wrist-q5-few _ _ _ _ _ _ _) (turned .before .loop .inv) (turned .loop-test .taken) (picked .at .ensures)
+    let tested = picked .before in
+    again _ _ _ _ _ (wrist-q5-few _ _ _ _ _ _ _) (tested .before .loop .inv) (tested .loop-test .taken) (picked .at .ensures)
     (at .rest .ensures) (on .rest2 .ensures)
     (called .wrist-q5 .ensures)
 

@@ -14,7 +14,7 @@ use Rattle.subproblems.specs.declared.Solved2.{Solved2}
 use Rattle.kinematics.specs.declared.Kinematics.{Kinematics}
 use Rattle.answers.specs.Written.{Wrote}
 use Rattle.answers.proofs.Laws.{by-name}
-use Rattle.answers.proofs.Turns.{Turns, start, again, small-sum, end, angles-kept, flags-kept}
+use Rattle.answers.proofs.Steps.{Steps, start, again, small-sum, end, angles-kept, flags-kept}
 use Rattle.family1.specs.SphericalTwoParallel.{p-13, t3, at-q3, at-q1}
 use Rattle.families_shared.specs.declared.Units.{Units}
 use Rattle.families_shared.proofs.Few.{few-of}
@@ -24,13 +24,13 @@ use Rattle.family1.proofs.at_q1.Tie as tie
 
 abbrev Inv-loop : tie.InvT-loop
 Inv-loop r-0t kin unit tolerance q1-is-ls q1 angles₀ flags₀ r-10 p set q3-is-ls n k₀ i₀ angles flags k i =
-    Turns (at-q3 r-0t kin tolerance p q1 q1-is-ls q3-is-ls) (get-all set) n 2 angles₀ flags₀ angles flags k i
+    Steps (at-q3 r-0t kin tolerance p q1 q1-is-ls q3-is-ls) (get-all set) n 2 angles₀ flags₀ angles flags k i
 
 abbrev μ-loop : tie.MeasureT-loop
 μ-loop r-0t kin unit tolerance q1-is-ls q1 angles₀ flags₀ r-10 p set q3-is-ls n k₀ i₀ angles flags k i = n - i
 
 met : (r-0t : Matrix) (p-0t : Vector3) (kin : Kinematics) (tolerance : Float) (q1-is-ls : Bool) (q1 : Float)
-    {origin turned p : Vector3}
+    {origin rotated p : Vector3}
     {r-10 : Matrix}
     {t : Solved2}
     {a₀ a : List Float}
@@ -38,11 +38,11 @@ met : (r-0t : Matrix) (p-0t : Vector3) (kin : Kinematics) (tolerance : Float) (q
     {n k i : ℕ}
     → origin ≡ negᵛ p-0t +ᵛ apply r-0t (kin .p6) +ᵛ kin .p0
     → r-10 ≡ rot (negᵛ (kin .h1)) q1
-    → turned ≡ apply r-10 origin
-    → p ≡ turned +ᵛ kin .p1
+    → rotated ≡ apply r-10 origin
+    → p ≡ rotated +ᵛ kin .p1
     → t ≡ t3 kin p
     → n ≤ i
-    → Turns (at-q3 r-0t kin tolerance p q1 q1-is-ls (t .«is_ls»)) (get-all (t .set)) n 2 a₀ f₀ a f k i
+    → Steps (at-q3 r-0t kin tolerance p q1 q1-is-ls (t .«is_ls»)) (get-all (t .set)) n 2 a₀ f₀ a f k i
     → Wrote (at-q1 r-0t p-0t kin tolerance q1-is-ls q1) a₀ f₀ a f k
 unfolding at-q1 p-13
 met r-0t p-0t kin tolerance q1-is-ls q1 e1 e2 e3 e4 e5 h t = by-name (cc) (end _ _ _ 2 h t)
@@ -62,8 +62,8 @@ at-q3-requires c κs =
 add-k : tie.Need-add-k Inv-loop μ-loop
 add-k c =
     let called = c .before .before .before .before in
-    let turned = called .before .before .before .before .before .before in
-    omega (arith, small-sum _ _ _ 2 (f1-at-q3-few _ _ _ _ _ _ _) (turned .before .loop .inv) (called .at-q3 .ensures))
+    let tested = called .before .before .before .before .before .before in
+    omega (arith, small-sum _ _ _ 2 (f1-at-q3-few _ _ _ _ _ _ _) (tested .before .loop .inv) (called .at-q3 .ensures))
 
 loop-again : tie.Need-loop-again Inv-loop μ-loop
 loop-again c =
@@ -71,8 +71,8 @@ loop-again c =
     let on = called .before .before .before in
     let at = on .before in
     let picked = at .before in
-    let turned = picked .before in
-    again _ _ _ _ _ (f1-at-q3-few _ _ _ _ _ _ _) (turned .before .loop .inv) (turned .loop-test .taken) (picked .at .ensures)
+    let tested = picked .before in
+    again _ _ _ _ _ (f1-at-q3-few _ _ _ _ _ _ _) (tested .before .loop .inv) (tested .loop-test .taken) (picked .at .ensures)
     (at .rest .ensures) (on .rest2 .ensures)
     (called .at-q3 .ensures)
 

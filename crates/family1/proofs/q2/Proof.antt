@@ -12,11 +12,11 @@ use Rattle.families_shared.specs.declared.Units.{Units}
 use Rattle.family1.proofs.q2.Statement.{statement}
 use Rattle.family1.proofs.q2.Tie as tie
 
-met : (kin : Kinematics) (tolerance : Float) (p-13 : Vector3) (q3 : Float) {r : Matrix} {turned back p : Vector3} {t : Solved1}
+met : (kin : Kinematics) (tolerance : Float) (p-13 : Vector3) (q3 : Float) {r : Matrix} {rotated back p : Vector3} {t : Solved1}
     → r ≡ rot (kin .h3) q3
-    → turned ≡ apply r (kin .p3)
+    → rotated ≡ apply r (kin .p3)
     → back ≡ negᵛ (kin .p2)
-    → p ≡ back -ᵛ turned
+    → p ≡ back -ᵛ rotated
     → t ≡ subproblem1-within p p-13 (kin .h2) tolerance
     → t ≡ q2 kin tolerance p-13 q3
 unfolding q2

@@ -13,7 +13,7 @@ use Rattle.subproblems.specs.declared.Solved2.{Solved2}
 use Rattle.kinematics.specs.declared.Kinematics.{Kinematics}
 use Rattle.answers.specs.Written.{Wrote}
 use Rattle.answers.proofs.Laws.{by-name}
-use Rattle.answers.proofs.Turns.{Turns, start, again, small-sum, end, angles-kept, flags-kept}
+use Rattle.answers.proofs.Steps.{Steps, start, again, small-sum, end, angles-kept, flags-kept}
 use Rattle.family1.specs.SphericalTwoParallel.{t1, at-q1, spherical-two-parallel}
 use Rattle.families_shared.proofs.Few.{few-of}
 use Rattle.family1.proofs.Few.{f1-at-q1-few}
@@ -22,7 +22,7 @@ use Rattle.family1.proofs.spherical_two_parallel.Tie as tie
 
 abbrev Inv-loop : tie.InvT-loop
 Inv-loop r-0t p-0t kin tolerance angles₀ flags₀ unit origin set q1-is-ls n k₀ i₀ angles flags k i =
-    Turns (at-q1 r-0t p-0t kin tolerance q1-is-ls) (get-all set) n 4 angles₀ flags₀ angles flags k i
+    Steps (at-q1 r-0t p-0t kin tolerance q1-is-ls) (get-all set) n 4 angles₀ flags₀ angles flags k i
 
 abbrev μ-loop : tie.MeasureT-loop
 μ-loop r-0t p-0t kin tolerance angles₀ flags₀ unit origin set q1-is-ls n k₀ i₀ angles flags k i = n - i
@@ -34,7 +34,7 @@ met : (r-0t : Matrix) (p-0t : Vector3) (kin : Kinematics) (tolerance : Float)
     {n k i : ℕ}
     → t ≡ t1 r-0t p-0t kin
     → n ≤ i
-    → Turns (at-q1 r-0t p-0t kin tolerance (t .«is_ls»)) (get-all (t .set)) n 4 a₀ f₀ a f k i
+    → Steps (at-q1 r-0t p-0t kin tolerance (t .«is_ls»)) (get-all (t .set)) n 4 a₀ f₀ a f k i
     → Wrote (spherical-two-parallel r-0t p-0t kin tolerance) a₀ f₀ a f k
 unfolding spherical-two-parallel
 met r-0t p-0t kin tolerance e h t = by-name (cc) (end _ _ _ 4 h t)
@@ -51,8 +51,8 @@ at-q1-requires c κs =
 add-k : tie.Need-add-k Inv-loop μ-loop
 add-k c =
     let called = c .before .before .before .before in
-    let turned = called .before .before .before .before .before .before in
-    omega (arith, small-sum _ _ _ 4 (f1-at-q1-few _ _ _ _ _) (turned .before .loop .inv) (called .at-q1 .ensures))
+    let tested = called .before .before .before .before .before .before in
+    omega (arith, small-sum _ _ _ 4 (f1-at-q1-few _ _ _ _ _) (tested .before .loop .inv) (called .at-q1 .ensures))
 
 loop-again : tie.Need-loop-again Inv-loop μ-loop
 loop-again c =
@@ -60,8 +60,8 @@ loop-again c =
     let on = called .before .before .before in
     let at = on .before in
     let picked = at .before in
-    let turned = picked .before in
-    again _ _ _ _ _ (f1-at-q1-few _ _ _ _ _) (turned .before .loop .inv) (turned .loop-test .taken) (picked .at .ensures)
+    let tested = picked .before in
+    again _ _ _ _ _ (f1-at-q1-few _ _ _ _ _) (tested .before .loop .inv) (tested .loop-test .taken) (picked .at .ensures)
     (at .rest .ensures) (on .rest2 .ensures)
     (called .at-q1 .ensures)
 

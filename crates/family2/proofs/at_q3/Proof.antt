@@ -13,7 +13,7 @@ use Rattle.subproblems.specs.declared.SolvedPairs2.{SolvedPairs2}
 use Rattle.kinematics.specs.declared.Kinematics.{Kinematics}
 use Rattle.answers.specs.Written.{Wrote}
 use Rattle.answers.proofs.Laws.{by-name}
-use Rattle.answers.proofs.Turns.{Turns, start, again, small-sum, end, angles-kept, flags-kept}
+use Rattle.answers.proofs.Steps.{Steps, start, again, small-sum, end, angles-kept, flags-kept}
 use Rattle.family2.specs.SphericalTwoIntersecting.{t12, at-q12, at-q3}
 use Rattle.families_shared.specs.declared.Units.{Units}
 use Rattle.families_shared.proofs.Few.{few-pairs-of}
@@ -23,7 +23,7 @@ use Rattle.family2.proofs.at_q3.Tie as tie
 
 abbrev Inv-loop : tie.InvT-loop
 Inv-loop r-0t kin unit tolerance t3-is-ls q3 angles₀ flags₀ r-32 set is-ls n k₀ i₀ angles flags k i =
-    Turns (at-q12 r-0t kin tolerance q3 is-ls) (get-pairs set) n 2 angles₀ flags₀ angles flags k i
+    Steps (at-q12 r-0t kin tolerance q3 is-ls) (get-pairs set) n 2 angles₀ flags₀ angles flags k i
 
 abbrev μ-loop : tie.MeasureT-loop
 μ-loop r-0t kin unit tolerance t3-is-ls q3 angles₀ flags₀ r-32 set is-ls n k₀ i₀ angles flags k i = n - i
@@ -37,7 +37,7 @@ met : (r-0t : Matrix) (kin : Kinematics) (tolerance : Float) (p-16 : Vector3) (t
     → t ≡ t12 kin p-16 q3
     → is-ls ≡ (t3-is-ls || t .«is_ls»)
     → n ≤ i
-    → Turns (at-q12 r-0t kin tolerance q3 is-ls) (get-pairs (t .set)) n 2 a₀ f₀ a f k i
+    → Steps (at-q12 r-0t kin tolerance q3 is-ls) (get-pairs (t .set)) n 2 a₀ f₀ a f k i
     → Wrote (at-q3 r-0t kin tolerance p-16 t3-is-ls q3) a₀ f₀ a f k
 unfolding at-q3
 met r-0t kin tolerance p-16 t3-is-ls q3 e1 e2 h t = by-name (cc) (end _ _ _ 2 h t)
@@ -59,8 +59,8 @@ at-q12-requires c κs =
 add-k : tie.Need-add-k Inv-loop μ-loop
 add-k c =
     let called = c .before .before .before .before in
-    let turned = called .before .before .before .before .before .before in
-    omega (arith, small-sum _ _ _ 2 (f2-at-q12-few _ _ _ _ _) (turned .before .loop .inv) (called .at-q12 .ensures))
+    let tested = called .before .before .before .before .before .before in
+    omega (arith, small-sum _ _ _ 2 (f2-at-q12-few _ _ _ _ _) (tested .before .loop .inv) (called .at-q12 .ensures))
 
 loop-again : tie.Need-loop-again Inv-loop μ-loop
 loop-again c =
@@ -68,8 +68,8 @@ loop-again c =
     let on = called .before .before .before in
     let at = on .before in
     let picked = at .before in
-    let turned = picked .before in
-    again _ _ _ _ _ (f2-at-q12-few _ _ _ _ _) (turned .before .loop .inv) (turned .loop-test .taken) (picked .at .ensures)
+    let tested = picked .before in
+    again _ _ _ _ _ (f2-at-q12-few _ _ _ _ _) (tested .before .loop .inv) (tested .loop-test .taken) (picked .at .ensures)
     (at .rest .ensures) (on .rest2 .ensures)
     (called .at-q12 .ensures)
 

@@ -13,7 +13,7 @@ use Rattle.subproblems.specs.declared.Solved2.{Solved2}
 use Rattle.kinematics.specs.declared.Kinematics.{Kinematics}
 use Rattle.answers.specs.Written.{Wrote}
 use Rattle.answers.proofs.Laws.{by-name}
-use Rattle.answers.proofs.Turns.{Turns, start, again, small-sum, end, angles-kept, flags-kept}
+use Rattle.answers.proofs.Steps.{Steps, start, again, small-sum, end, angles-kept, flags-kept}
 use Rattle.family2.specs.SphericalTwoIntersecting.{p-16, t3, at-q3, spherical-two-intersecting}
 use Rattle.families_shared.proofs.Few.{few-of}
 use Rattle.family2.proofs.Few.{f2-at-q3-few}
@@ -22,7 +22,7 @@ use Rattle.family2.proofs.spherical_two_intersecting.Tie as tie
 
 abbrev Inv-loop : tie.InvT-loop
 Inv-loop r-0t kin tolerance angles₀ flags₀ unit p set t3-is-ls n k₀ i₀ angles flags k i =
-    Turns (at-q3 r-0t kin tolerance p t3-is-ls) (get-all set) n 4 angles₀ flags₀ angles flags k i
+    Steps (at-q3 r-0t kin tolerance p t3-is-ls) (get-all set) n 4 angles₀ flags₀ angles flags k i
 
 abbrev μ-loop : tie.MeasureT-loop
 μ-loop r-0t kin tolerance angles₀ flags₀ unit p set t3-is-ls n k₀ i₀ angles flags k i = n - i
@@ -36,7 +36,7 @@ met : (r-0t : Matrix) (p-0t : Vector3) (kin : Kinematics) (tolerance : Float)
     → p ≡ p-16 r-0t p-0t kin
     → t ≡ t3 kin p
     → n ≤ i
-    → Turns (at-q3 r-0t kin tolerance p (t .«is_ls»)) (get-all (t .set)) n 4 a₀ f₀ a f k i
+    → Steps (at-q3 r-0t kin tolerance p (t .«is_ls»)) (get-all (t .set)) n 4 a₀ f₀ a f k i
     → Wrote (spherical-two-intersecting r-0t p-0t kin tolerance) a₀ f₀ a f k
 unfolding spherical-two-intersecting
 met r-0t p-0t kin tolerance e1 e2 h t = by-name (cc) (end _ _ _ 4 h t)
@@ -51,8 +51,8 @@ at-q3-requires c κs =
 add-k : tie.Need-add-k Inv-loop μ-loop
 add-k c =
     let called = c .before .before .before .before in
-    let turned = called .before .before .before .before .before .before in
-    omega (arith, small-sum _ _ _ 4 (f2-at-q3-few _ _ _ _ _) (turned .before .loop .inv) (called .at-q3 .ensures))
+    let tested = called .before .before .before .before .before .before in
+    omega (arith, small-sum _ _ _ 4 (f2-at-q3-few _ _ _ _ _) (tested .before .loop .inv) (called .at-q3 .ensures))
 
 loop-again : tie.Need-loop-again Inv-loop μ-loop
 loop-again c =
@@ -60,8 +60,8 @@ loop-again c =
     let on = called .before .before .before in
     let at = on .before in
     let picked = at .before in
-    let turned = picked .before in
-    again _ _ _ _ _ (f2-at-q3-few _ _ _ _ _) (turned .before .loop .inv) (turned .loop-test .taken) (picked .at .ensures)
+    let tested = picked .before in
+    again _ _ _ _ _ (f2-at-q3-few _ _ _ _ _) (tested .before .loop .inv) (tested .loop-test .taken) (picked .at .ensures)
     (at .rest .ensures) (on .rest2 .ensures)
     (called .at-q3 .ensures)
 

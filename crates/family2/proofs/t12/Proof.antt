@@ -12,10 +12,10 @@ use Rattle.families_shared.specs.declared.Units.{Units}
 use Rattle.family2.proofs.t12.Statement.{statement}
 use Rattle.family2.proofs.t12.Tie as tie
 
-met : (kin : Kinematics) (p-16 : Vector3) (q3 : Float) {r : Matrix} {turned p k : Vector3} {t : SolvedPairs2}
+met : (kin : Kinematics) (p-16 : Vector3) (q3 : Float) {r : Matrix} {rotated p k : Vector3} {t : SolvedPairs2}
     → r ≡ rot (kin .h3) q3
-    → turned ≡ apply r (kin .p3)
-    → p ≡ kin .p2 +ᵛ turned
+    → rotated ≡ apply r (kin .p3)
+    → p ≡ kin .p2 +ᵛ rotated
     → k ≡ negᵛ (kin .h1)
     → t ≡ subproblem2 p-16 p k (kin .h2)
     → t ≡ t12 kin p-16 q3

@@ -12,7 +12,7 @@ use Rattle.tripleset.specs.declared.TripleSet4.{TripleSet4}
 use Rattle.kinematics.specs.declared.Kinematics.{Kinematics}
 use Rattle.answers.specs.Written.{Wrote}
 use Rattle.answers.proofs.Laws.{by-name}
-use Rattle.answers.proofs.Turns.{Turns, start, again, small-sum, end, angles-kept, flags-kept}
+use Rattle.answers.proofs.Steps.{Steps, start, again, small-sum, end, angles-kept, flags-kept}
 use Rattle.families_shared.specs.Place.{p-16}
 use Rattle.family3.specs.Spherical.{t123, at-q123, spherical}
 use Rattle.families_shared.proofs.Few.{few-triples-of}
@@ -22,7 +22,7 @@ use Rattle.family3.proofs.spherical.Tie as tie
 
 abbrev Inv-loop : tie.InvT-loop
 Inv-loop r-06 kin tolerance angles₀ flags₀ unit set n k₀ i₀ angles flags k i =
-    Turns (at-q123 r-06 kin tolerance) (get-all set) n 2 angles₀ flags₀ angles flags k i
+    Steps (at-q123 r-06 kin tolerance) (get-all set) n 2 angles₀ flags₀ angles flags k i
 
 abbrev μ-loop : tie.MeasureT-loop
 μ-loop r-06 kin tolerance angles₀ flags₀ unit set n k₀ i₀ angles flags k i = n - i
@@ -36,7 +36,7 @@ met : (r-06 : Matrix) (p-0t : Vector3) (kin : Kinematics) (tolerance : Float)
     → p ≡ p-16 r-06 p-0t kin
     → set ≡ t123 kin p
     → n ≤ i
-    → Turns (at-q123 r-06 kin tolerance) (get-all set) n 2 a₀ f₀ a f k i
+    → Steps (at-q123 r-06 kin tolerance) (get-all set) n 2 a₀ f₀ a f k i
     → Wrote (spherical r-06 p-0t kin tolerance) a₀ f₀ a f k
 unfolding spherical
 met r-06 p-0t kin tolerance e1 e2 h t = by-name (cc) (end _ _ _ 2 h t)
@@ -51,8 +51,8 @@ at-q123-requires c κs =
 add-k : tie.Need-add-k Inv-loop μ-loop
 add-k c =
     let called = c .before .before .before .before in
-    let turned = called .before .before .before .before .before .before in
-    omega (arith, small-sum _ _ _ 2 (f3-at-q123-few _ _ _) (turned .before .loop .inv) (called .at-q123 .ensures))
+    let tested = called .before .before .before .before .before .before in
+    omega (arith, small-sum _ _ _ 2 (f3-at-q123-few _ _ _) (tested .before .loop .inv) (called .at-q123 .ensures))
 
 loop-again : tie.Need-loop-again Inv-loop μ-loop
 loop-again c =
@@ -60,8 +60,8 @@ loop-again c =
     let on = called .before .before .before in
     let at = on .before in
     let picked = at .before in
-    let turned = picked .before in
-    again _ _ _ _ _ (f3-at-q123-few _ _ _) (turned .before .loop .inv) (turned .loop-test .taken) (picked .at .ensures)
+    let tested = picked .before in
+    again _ _ _ _ _ (f3-at-q123-few _ _ _) (tested .before .loop .inv) (tested .loop-test .taken) (picked .at .ensures)
     (at .rest .ensures) (on .rest2 .ensures)
     (called .at-q123 .ensures)
 

@@ -13,7 +13,7 @@ use Rattle.subproblems.specs.declared.Solved2.{Solved2}
 use Rattle.kinematics.specs.declared.Kinematics.{Kinematics}
 use Rattle.answers.specs.Written.{Wrote}
 use Rattle.answers.proofs.Laws.{by-name}
-use Rattle.answers.proofs.Turns.{Turns, start, again, small-sum, end, angles-kept, flags-kept}
+use Rattle.answers.proofs.Steps.{Steps, start, again, small-sum, end, angles-kept, flags-kept}
 use Rattle.family4.specs.ThreeParallelTwoIntersecting.{theta5, at-q5, at-q1}
 use Rattle.families_shared.specs.declared.Units.{Units}
 use Rattle.families_shared.proofs.Few.{few-of}
@@ -23,7 +23,7 @@ use Rattle.family4.proofs.at_q1.Tie as tie
 
 abbrev Inv-loop : tie.InvT-loop
 Inv-loop r-06 kin unit tolerance p-16 theta1-is-ls q1 angles₀ flags₀ r-01 r-10 to reach set theta5-is-ls n k₀ i₀ angles flags k i =
-    Turns (at-q5 r-06 kin tolerance p-16 r-01 q1 theta1-is-ls theta5-is-ls) (get-all set) n 2 angles₀ flags₀ angles flags k i
+    Steps (at-q5 r-06 kin tolerance p-16 r-01 q1 theta1-is-ls theta5-is-ls) (get-all set) n 2 angles₀ flags₀ angles flags k i
 
 abbrev μ-loop : tie.MeasureT-loop
 μ-loop r-06 kin unit tolerance p-16 theta1-is-ls q1 angles₀ flags₀ r-01 r-10 to reach set theta5-is-ls n k₀ i₀ angles flags k i = n - i
@@ -37,7 +37,7 @@ met : (r-06 : Matrix) (kin : Kinematics) (tolerance : Float) (p-16 : Vector3) (t
     → r-01 ≡ rot (kin .h1) q1
     → t ≡ theta5 r-06 kin r-01
     → n ≤ i
-    → Turns (at-q5 r-06 kin tolerance p-16 r-01 q1 theta1-is-ls (t .«is_ls»)) (get-all (t .set)) n 2 a₀ f₀ a f k i
+    → Steps (at-q5 r-06 kin tolerance p-16 r-01 q1 theta1-is-ls (t .«is_ls»)) (get-all (t .set)) n 2 a₀ f₀ a f k i
     → Wrote (at-q1 r-06 kin tolerance p-16 theta1-is-ls q1) a₀ f₀ a f k
 unfolding at-q1
 met r-06 kin tolerance p-16 theta1-is-ls q1 e1 e2 h t = by-name (cc) (end _ _ _ 2 h t)
@@ -63,8 +63,8 @@ at-q5-requires c κs =
 add-k : tie.Need-add-k Inv-loop μ-loop
 add-k c =
     let called = c .before .before .before .before in
-    let turned = called .before .before .before .before .before .before in
-    omega (arith, small-sum _ _ _ 2 (f4-at-q5-few _ _ _ _ _ _ _ _) (turned .before .loop .inv) (called .at-q5 .ensures))
+    let tested = called .before .before .before .before .before .before in
+    omega (arith, small-sum _ _ _ 2 (f4-at-q5-few _ _ _ _ _ _ _ _) (tested .before .loop .inv) (called .at-q5 .ensures))
 
 loop-again : tie.Need-loop-again Inv-loop μ-loop
 loop-again c =
@@ -72,8 +72,8 @@ loop-again c =
     let on = called .before .before .before in
     let at = on .before in
     let picked = at .before in
-    let turned = picked .before in
-    again _ _ _ _ _ (f4-at-q5-few _ _ _ _ _ _ _ _) (turned .before .loop .inv) (turned .loop-test .taken) (picked .at .ensures)
+    let tested = picked .before in
+    again _ _ _ _ _ (f4-at-q5-few _ _ _ _ _ _ _ _) (tested .before .loop .inv) (tested .loop-test .taken) (picked .at .ensures)
     (at .rest .ensures) (on .rest2 .ensures)
     (called .at-q5 .ensures)
 

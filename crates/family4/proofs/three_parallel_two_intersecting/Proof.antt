@@ -13,7 +13,7 @@ use Rattle.subproblems.specs.declared.Solved2.{Solved2}
 use Rattle.kinematics.specs.declared.Kinematics.{Kinematics}
 use Rattle.answers.specs.Written.{Wrote}
 use Rattle.answers.proofs.Laws.{by-name}
-use Rattle.answers.proofs.Turns.{Turns, start, again, small-sum, end, angles-kept, flags-kept}
+use Rattle.answers.proofs.Steps.{Steps, start, again, small-sum, end, angles-kept, flags-kept}
 use Rattle.families_shared.specs.Place.{p-16}
 use Rattle.family4.specs.ThreeParallelTwoIntersecting.{theta1, at-q1, three-parallel-two-intersecting}
 use Rattle.families_shared.proofs.Few.{few-of}
@@ -23,7 +23,7 @@ use Rattle.family4.proofs.three_parallel_two_intersecting.Tie as tie
 
 abbrev Inv-loop : tie.InvT-loop
 Inv-loop r-06 kin tolerance angles₀ flags₀ unit p set theta1-is-ls n k₀ i₀ angles flags k i =
-    Turns (at-q1 r-06 kin tolerance p theta1-is-ls) (get-all set) n 4 angles₀ flags₀ angles flags k i
+    Steps (at-q1 r-06 kin tolerance p theta1-is-ls) (get-all set) n 4 angles₀ flags₀ angles flags k i
 
 abbrev μ-loop : tie.MeasureT-loop
 μ-loop r-06 kin tolerance angles₀ flags₀ unit p set theta1-is-ls n k₀ i₀ angles flags k i = n - i
@@ -37,7 +37,7 @@ met : (r-06 : Matrix) (p-0t : Vector3) (kin : Kinematics) (tolerance : Float)
     → p ≡ p-16 r-06 p-0t kin
     → t ≡ theta1 kin p
     → n ≤ i
-    → Turns (at-q1 r-06 kin tolerance p (t .«is_ls»)) (get-all (t .set)) n 4 a₀ f₀ a f k i
+    → Steps (at-q1 r-06 kin tolerance p (t .«is_ls»)) (get-all (t .set)) n 4 a₀ f₀ a f k i
     → Wrote (three-parallel-two-intersecting r-06 p-0t kin tolerance) a₀ f₀ a f k
 unfolding three-parallel-two-intersecting
 met r-06 p-0t kin tolerance e1 e2 h t = by-name (cc) (end _ _ _ 4 h t)
@@ -52,8 +52,8 @@ at-q1-requires c κs =
 add-k : tie.Need-add-k Inv-loop μ-loop
 add-k c =
     let called = c .before .before .before .before in
-    let turned = called .before .before .before .before .before .before in
-    omega (arith, small-sum _ _ _ 4 (f4-at-q1-few _ _ _ _ _) (turned .before .loop .inv) (called .at-q1 .ensures))
+    let tested = called .before .before .before .before .before .before in
+    omega (arith, small-sum _ _ _ 4 (f4-at-q1-few _ _ _ _ _) (tested .before .loop .inv) (called .at-q1 .ensures))
 
 loop-again : tie.Need-loop-again Inv-loop μ-loop
 loop-again c =
@@ -61,8 +61,8 @@ loop-again c =
     let on = called .before .before .before in
     let at = on .before in
     let picked = at .before in
-    let turned = picked .before in
-    again _ _ _ _ _ (f4-at-q1-few _ _ _ _ _) (turned .before .loop .inv) (turned .loop-test .taken) (picked .at .ensures)
+    let tested = picked .before in
+    again _ _ _ _ _ (f4-at-q1-few _ _ _ _ _) (tested .before .loop .inv) (tested .loop-test .taken) (picked .at .ensures)
     (at .rest .ensures) (on .rest2 .ensures)
     (called .at-q1 .ensures)
 

@@ -12,7 +12,7 @@ use Rattle.pairset.specs.declared.PairSet4.{PairSet4}
 use Rattle.kinematics.specs.declared.Kinematics.{Kinematics}
 use Rattle.answers.specs.Written.{Wrote}
 use Rattle.answers.proofs.Laws.{by-name}
-use Rattle.answers.proofs.Turns.{Turns, start, again, small-sum, end, angles-kept, flags-kept}
+use Rattle.answers.proofs.Steps.{Steps, start, again, small-sum, end, angles-kept, flags-kept}
 use Rattle.families_shared.specs.Place.{p-16}
 use Rattle.family5.specs.ThreeParallel.{theta15, at-q15, three-parallel}
 use Rattle.families_shared.proofs.Few.{few-pairs4-of}
@@ -22,7 +22,7 @@ use Rattle.family5.proofs.three_parallel.Tie as tie
 
 abbrev Inv-loop : tie.InvT-loop
 Inv-loop r-06 kin tolerance angles₀ flags₀ unit p set n k₀ i₀ angles flags k i =
-    Turns (at-q15 r-06 kin tolerance p) (get-all set) n 2 angles₀ flags₀ angles flags k i
+    Steps (at-q15 r-06 kin tolerance p) (get-all set) n 2 angles₀ flags₀ angles flags k i
 
 abbrev μ-loop : tie.MeasureT-loop
 μ-loop r-06 kin tolerance angles₀ flags₀ unit p set n k₀ i₀ angles flags k i = n - i
@@ -36,7 +36,7 @@ met : (r-06 : Matrix) (p-0t : Vector3) (kin : Kinematics) (tolerance : Float)
     → p ≡ p-16 r-06 p-0t kin
     → set ≡ theta15 r-06 kin p
     → n ≤ i
-    → Turns (at-q15 r-06 kin tolerance p) (get-all set) n 2 a₀ f₀ a f k i
+    → Steps (at-q15 r-06 kin tolerance p) (get-all set) n 2 a₀ f₀ a f k i
     → Wrote (three-parallel r-06 p-0t kin tolerance) a₀ f₀ a f k
 unfolding three-parallel
 met r-06 p-0t kin tolerance e1 e2 h t = by-name (cc) (end _ _ _ 2 h t)
@@ -51,8 +51,8 @@ at-q15-requires c κs =
 add-k : tie.Need-add-k Inv-loop μ-loop
 add-k c =
     let called = c .before .before .before .before in
-    let turned = called .before .before .before .before .before .before in
-    omega (arith, small-sum _ _ _ 2 (f5-at-q15-few _ _ _ _) (turned .before .loop .inv) (called .at-q15 .ensures))
+    let tested = called .before .before .before .before .before .before in
+    omega (arith, small-sum _ _ _ 2 (f5-at-q15-few _ _ _ _) (tested .before .loop .inv) (called .at-q15 .ensures))
 
 loop-again : tie.Need-loop-again Inv-loop μ-loop
 loop-again c =
@@ -60,8 +60,8 @@ loop-again c =
     let on = called .before .before .before in
     let at = on .before in
     let picked = at .before in
-    let turned = picked .before in
-    again _ _ _ _ _ (f5-at-q15-few _ _ _ _) (turned .before .loop .inv) (turned .loop-test .taken) (picked .at .ensures)
+    let tested = picked .before in
+    again _ _ _ _ _ (f5-at-q15-few _ _ _ _) (tested .before .loop .inv) (tested .loop-test .taken) (picked .at .ensures)
     (at .rest .ensures) (on .rest2 .ensures)
     (called .at-q15 .ensures)
 

@@ -7,14 +7,14 @@ use Rattle.float.specs.Num.{infinity}
 use Rattle.pairset.specs.declared.Pair.{Pair}
 use Rattle.pairset.specs.declared.PairSet4.{PairSet4}
 use Rattle.pairset.specs.declared.PairSet4.the-variants.{Zero, One, Two, Three, Four}
-use Rattle.search_error.specs.Given.{turned, t64, answer-error, error-of}
-use Rattle.search_error.specs.declared.Given.{Given}
-use Rattle.search_error.specs.declared.Turned.{Turned}
+use Rattle.search_error.specs.Fixed.{given-q1, t64, answer-error, error-of}
+use Rattle.search_error.specs.declared.Fixed.{Fixed}
+use Rattle.search_error.specs.declared.GivenQ1.{GivenQ1}
 use Rattle.search_error.proofs.error_given_q1.Statement.{statement}
 use Rattle.search_error.proofs.error_given_q1.Tie as tie
 
 -- each arm sets as many components as there are answers
-module _ (g : Given) (q1 : Float) {t : Turned} {s : PairSet4} {i : Float} (et : t ≡ turned g q1) (es : s ≡ t64 g t) (ei : i ≡ infinity) where
+module _ (g : Fixed) (q1 : Float) {t : GivenQ1} {s : PairSet4} {i : Float} (et : t ≡ given-q1 g q1) (es : s ≡ t64 g t) (ei : i ≡ infinity) where
   none : s ≡ Zero → (i ∷ i ∷ i ∷ i ∷ []) ≡ error-of g q1
   unfolding error-of
   none e = cc

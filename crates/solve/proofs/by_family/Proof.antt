@@ -17,20 +17,20 @@ use Rattle.families.specs.Spherical.{spherical}
 use Rattle.families.specs.ThreeParallelTwoIntersecting.{three-parallel-two-intersecting}
 use Rattle.families.specs.ThreeParallel.{three-parallel}
 use Rattle.two_parallel.specs.TwoParallel.{two-parallel, evaluations}
-use Rattle.two_parallel.specs.declared.Counted.{Counted}
+use Rattle.two_parallel.specs.declared.AnswerCounts.{AnswerCounts}
 use Rattle.solve.specs.Solve.{Full, no-search, by-family, Solves}
 use Rattle.solve.proofs.by_family.Statement.{statement}
 use Rattle.solve.proofs.by_family.Tie as tie
 
 -- a list that takes no search
-listed : {l : List Answer} {f : Full} {a₀ a : List Float} {b₀ b : List ℕ} {k : ℕ} {r : Counted}
+listed : {l : List Answer} {f : Full} {a₀ a : List Float} {b₀ b : List ℕ} {k : ℕ} {r : AnswerCounts}
     → f ≡ no-search l
     → Wrote l a₀ b₀ a b k
     → (r .answers ≡ k) × (r .evals ≡ 0)
     → Solves f a₀ b₀ a b r
 listed e w c = rw (e, c .0, c .1) (record { wrote = w; counted = refl })
 
-module _ (family n : ℕ) (r : Matrix) (p : Vector3) (kin : Kinematics) (tolerance : Float) {a₀ a : List Float} {b₀ b : List ℕ} {k : ℕ} {s : Counted}
+module _ (family n : ℕ) (r : Matrix) (p : Vector3) (kin : Kinematics) (tolerance : Float) {a₀ a : List Float} {b₀ b : List ℕ} {k : ℕ} {s : AnswerCounts}
     (c : (s .answers ≡ k) × (s .evals ≡ 0)) where
   first : family ≡ 1 → Wrote (spherical-two-parallel r p kin tolerance) a₀ b₀ a b k → Solves (by-family family n r p kin tolerance) a₀ b₀ a b s
   unfolding by-family
@@ -52,7 +52,7 @@ module _ (family n : ℕ) (r : Matrix) (p : Vector3) (kin : Kinematics) (toleran
   unfolding by-family
   fifth h w = rw h (listed refl w c)
 
-sixth : (family n : ℕ) (r : Matrix) (p : Vector3) (kin : Kinematics) (tolerance : Float) {a₀ a : List Float} {b₀ b : List ℕ} {s : Counted}
+sixth : (family n : ℕ) (r : Matrix) (p : Vector3) (kin : Kinematics) (tolerance : Float) {a₀ a : List Float} {b₀ b : List ℕ} {s : AnswerCounts}
     → (family ≡ 1 → ⊥) → (family ≡ 2 → ⊥) → (family ≡ 3 → ⊥) → (family ≡ 4 → ⊥) → (family ≡ 5 → ⊥)
     → Wrote (two-parallel r p kin tolerance n) a₀ b₀ a b (s .answers)
     → s .evals ≡ evaluations r p kin n

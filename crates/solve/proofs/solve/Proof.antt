@@ -14,7 +14,7 @@ use Rattle.kinematics.specs.Pose.{pose-rotation, pose-place}
 use Rattle.kinematics.specs.declared.Kinematics.{Kinematics}
 use Rattle.answers.specs.Written.{room, written, flagged}
 use Rattle.answers.proofs.Laws.{nothing}
-use Rattle.two_parallel.specs.declared.Counted.{Counted}
+use Rattle.two_parallel.specs.declared.AnswerCounts.{AnswerCounts}
 use Rattle.refusals.specs.Judge.{judge, refusal-9, samples-fit}
 use Rattle.solve.specs.Solve.{Full, no-search, tolerance, by-family, full, answers, solve, Solves}
 use Rattle.solve.specs.declared.Solved.{Solved}
@@ -58,7 +58,7 @@ module _ (family n : ℕ) (arm pose angles : List Float) (flags : List ℕ) {ref
     flags-refused = rw (answers, none) (nothing angles flags .all-flags)
 
   module _ (h : refused ≡ 0) where
-    module _ {r : Matrix} {p : Vector3} {kin : Kinematics} {a : List Float} {b : List ℕ} {found : Counted}
+    module _ {r : Matrix} {p : Vector3} {kin : Kinematics} {a : List Float} {b : List ℕ} {found : AnswerCounts}
         (e-kin : kin ≡ from-numbers arm)
         (e-r : r ≡ pose-rotation pose)
         (e-p : p ≡ pose-place pose)

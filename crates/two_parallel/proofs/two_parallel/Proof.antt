@@ -14,21 +14,21 @@ use Rattle.kinematics.specs.declared.Kinematics.{Kinematics}
 use Rattle.answers.specs.Written.{Wrote}
 use Rattle.answers.specs.declared.Answer.{Answer}
 use Rattle.answers.proofs.Laws.{by-name}
-use Rattle.search_definition.specs.Found.{Pair}
-use Rattle.search_error.specs.Given.{given, error-at}
-use Rattle.search_error.specs.declared.Given.{Given}
-use Rattle.search_dip.specs.State.{angle-of, component-of}
+use Rattle.search_definition.specs.Found.{SearchPair}
+use Rattle.search_error.specs.Fixed.{fixed, error-at}
+use Rattle.search_error.specs.declared.Fixed.{Fixed}
+use Rattle.search_pairs.specs.State.{angle-of, component-of}
 use Rattle.search.specs.Searched.{Searched, search-within}
-use Rattle.search_dip.specs.declared.pairs.Found.{Found}
-use Rattle.two_parallel_answers.specs.Given.{answer-at}
+use Rattle.search_pairs.specs.declared.SearchCounts.{SearchCounts}
+use Rattle.two_parallel_answers.specs.FixedAnswer.{answer-at}
 use Rattle.two_parallel_answers.specs.Pairs.{first-pairs, AllAnswered}
 use Rattle.two_parallel.specs.TwoParallel.{answer-of, two-parallel, evaluations}
-use Rattle.two_parallel.proofs.Once.{once}
+use Rattle.two_parallel.proofs.SameAnswer.{answer-at-same}
 use Rattle.two_parallel.proofs.Held.{pairs-fit, all-answered, search-held, search-evals}
 use Rattle.two_parallel.proofs.two_parallel.Statement.{statement}
 use Rattle.two_parallel.proofs.two_parallel.Tie as tie
 
-module _ (kin : Kinematics) (r-06 : Matrix) (p-0t : Vector3) (n : ℕ) {g : Given} (e : g ≡ given kin r-06 p-0t) (q : List Float) (c : List ℕ) {q′ : List Float} {c′ : List ℕ} {r : Found} (w : Searched (search-within (error-at g) n) q c q′ c′ r) (lq : length q ≡ 17600) (lc : length c ≡ 17600) where
+module _ (kin : Kinematics) (r-06 : Matrix) (p-0t : Vector3) (n : ℕ) {g : Fixed} (e : g ≡ fixed kin r-06 p-0t) (q : List Float) (c : List ℕ) {q′ : List Float} {c′ : List ℕ} {r : SearchCounts} (w : Searched (search-within (error-at g) n) q c q′ c′ r) (lq : length q ≡ 17600) (lc : length c ≡ 17600) where
   asked : (r .pairs ≤ 17600) × (r .pairs ≤ length q′) × (r .pairs ≤ length c′) × AllAnswered g (r .pairs) q′ c′
   asked =
       let few = pairs-fit kin r-06 p-0t n e q c w lq lc in
@@ -41,8 +41,8 @@ module _ (kin : Kinematics) (r-06 : Matrix) (p-0t : Vector3) (n : ℕ) {g : Give
       → Wrote (two-parallel r-06 p-0t kin tolerance n) a₀ f₀ a f k
   unfolding two-parallel
   wrote tolerance =
-      by-name (ap (λ (x : Given). map (answer-at x tolerance) (first-pairs (r .pairs) q′ c′)) e
-      ∙ ap (λ (h : Pair → Answer). map h (first-pairs (r .pairs) q′ c′)) (once r-06 p-0t kin tolerance)
+      by-name (ap (λ (x : Fixed). map (answer-at x tolerance) (first-pairs (r .pairs) q′ c′)) e
+      ∙ ap (λ (h : SearchPair → Answer). map h (first-pairs (r .pairs) q′ c′)) (answer-at-same r-06 p-0t kin tolerance)
       ∙ ap (map (answer-of r-06 p-0t kin tolerance)) (search-held kin r-06 p-0t n e q c w lq lc))
 
   counted : r .evals ≡ evaluations r-06 p-0t kin n

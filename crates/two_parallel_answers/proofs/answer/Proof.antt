@@ -8,21 +8,21 @@ use Rattle.linear.specs.Matrix.{Matrix, product, transpose, rot-unit}
 use Rattle.pairset.specs.declared.Pair.{Pair}
 use Rattle.subproblems.specs.declared.Solved1.{Solved1}
 use Rattle.answers.specs.declared.Answer.{Answer}
-use Rattle.search_error.specs.Given.{turned-rotation}
-use Rattle.search_error.specs.declared.Given.{Given}
-use Rattle.search_error.specs.declared.Turned.{Turned}
-use Rattle.two_parallel_answers.specs.Given.{t23, q2, q5, answer}
+use Rattle.search_error.specs.Fixed.{rotation-given-q1}
+use Rattle.search_error.specs.declared.Fixed.{Fixed}
+use Rattle.search_error.specs.declared.GivenQ1.{GivenQ1}
+use Rattle.two_parallel_answers.specs.FixedAnswer.{t23, q2, q5, answer}
 use Rattle.two_parallel_answers.proofs.answer.Statement.{statement}
 use Rattle.two_parallel_answers.proofs.answer.Tie as tie
 
-met : (g : Given) (tolerance q1 : Float) (t : Turned) (a : Pair)
+met : (g : Fixed) (tolerance q1 : Float) (t : GivenQ1) (a : Pair)
     {r-34 r-56 m r-65 r-16 : Matrix}
     {s23 s2 s5 : Solved1}
     {q3 : Float}
     {joined : Bool}
     → r-34 ≡ rot-unit (g .u4) (a .second)
     → r-56 ≡ rot-unit (g .u6) (a .first)
-    → m ≡ turned-rotation t
+    → m ≡ rotation-given-q1 t
     → r-65 ≡ transpose r-56
     → r-16 ≡ product m r-65
     → s23 ≡ t23 g tolerance r-16 r-34

@@ -6,15 +6,15 @@ use Rattle.pairset.specs.PairSet4.{at, size}
 use Rattle.pairset.specs.declared.Pair as Angles
 use Rattle.pairset.specs.declared.PairSet4.{PairSet4}
 use Rattle.answers.specs.declared.Answer.{Answer}
-use Rattle.search_error.specs.Given.{turned, t64}
-use Rattle.search_error.specs.declared.Given.{Given}
-use Rattle.search_error.specs.declared.Turned.{Turned}
-use Rattle.two_parallel_answers.specs.Given.{answer, answer-at}
+use Rattle.search_error.specs.Fixed.{given-q1, t64}
+use Rattle.search_error.specs.declared.Fixed.{Fixed}
+use Rattle.search_error.specs.declared.GivenQ1.{GivenQ1}
+use Rattle.two_parallel_answers.specs.FixedAnswer.{answer, answer-at}
 use Rattle.two_parallel_answers.specs.Pairs.{pair, Answered}
 use Rattle.two_parallel_answers.proofs.answer_at.Statement.{statement}
 use Rattle.two_parallel_answers.proofs.answer_at.Tie as tie
 
-module _ (g : Given) (q1 : Float) (i : ℕ) {t : Turned} {set : PairSet4} (et : t ≡ turned g q1) (es : set ≡ t64 g t) where
+module _ (g : Fixed) (q1 : Float) (i : ℕ) {t : GivenQ1} {set : PairSet4} (et : t ≡ given-q1 g q1) (es : set ≡ t64 g t) where
   in-bounds : Answered g q1 i → i < size set
   in-bounds h = rw (es, et) h
 

@@ -6,13 +6,13 @@ use Rattle.linear.specs.Vector.{_-ᵛ_}
 use Rattle.vector.specs.declared.Vector3.{Vector3}
 use Rattle.subproblems.specs.Subproblem1.{subproblem1-within}
 use Rattle.subproblems.specs.declared.Solved1.{Solved1}
-use Rattle.search_error.specs.declared.Given.{Given}
-use Rattle.search_error.specs.declared.Turned.{Turned}
-use Rattle.two_parallel_answers.specs.Given.{q2}
+use Rattle.search_error.specs.declared.Fixed.{Fixed}
+use Rattle.search_error.specs.declared.GivenQ1.{GivenQ1}
+use Rattle.two_parallel_answers.specs.FixedAnswer.{q2}
 use Rattle.two_parallel_answers.proofs.q2.Statement.{statement}
 use Rattle.two_parallel_answers.proofs.q2.Tie as tie
 
-met : (g : Given) (tolerance : Float) (t : Turned) (r-16 r-34 : Matrix) (theta : Float)
+met : (g : Fixed) (tolerance : Float) (t : GivenQ1) (r-16 r-34 : Matrix) (theta : Float)
     {r-13 r-14 : Matrix}
     {v3 p3 v4 p4 v5 p5 : Vector3}
     {s : Solved1}

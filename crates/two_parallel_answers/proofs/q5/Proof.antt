@@ -5,13 +5,13 @@ use Rattle.linear.specs.Matrix.{Matrix, product, apply, transpose, rot-unit}
 use Rattle.vector.specs.declared.Vector3.{Vector3}
 use Rattle.subproblems.specs.Subproblem1.{subproblem1-within}
 use Rattle.subproblems.specs.declared.Solved1.{Solved1}
-use Rattle.search_error.specs.Given.{rotation}
-use Rattle.search_error.specs.declared.Given.{Given}
-use Rattle.two_parallel_answers.specs.Given.{q5}
+use Rattle.search_error.specs.Fixed.{rotation}
+use Rattle.search_error.specs.declared.Fixed.{Fixed}
+use Rattle.two_parallel_answers.specs.FixedAnswer.{q5}
 use Rattle.two_parallel_answers.proofs.q5.Statement.{statement}
 use Rattle.two_parallel_answers.proofs.q5.Tie as tie
 
-met : (g : Given) (tolerance q1 : Float) (r-34 r-56 : Matrix)
+met : (g : Fixed) (tolerance q1 : Float) (r-34 r-56 : Matrix)
     {r-01 r-06 r-60 r-50 r-43 r-51 : Matrix}
     {p1 p2 : Vector3}
     {s : Solved1}

@@ -5,12 +5,12 @@ use Rattle.linear.specs.Matrix.{Matrix, apply}
 use Rattle.vector.specs.declared.Vector3.{Vector3}
 use Rattle.subproblems.specs.Subproblem1.{subproblem1-within}
 use Rattle.subproblems.specs.declared.Solved1.{Solved1}
-use Rattle.search_error.specs.declared.Given.{Given}
-use Rattle.two_parallel_answers.specs.Given.{t23}
+use Rattle.search_error.specs.declared.Fixed.{Fixed}
+use Rattle.two_parallel_answers.specs.FixedAnswer.{t23}
 use Rattle.two_parallel_answers.proofs.t23.Statement.{statement}
 use Rattle.two_parallel_answers.proofs.t23.Tie as tie
 
-met : (g : Given) (tolerance : Float) (r-16 r-34 : Matrix) {p1 p2 : Vector3} {s : Solved1}
+met : (g : Fixed) (tolerance : Float) (r-16 r-34 : Matrix) {p1 p2 : Vector3} {s : Solved1}
     → p1 ≡ apply r-34 (g .kin .h5)
     → p2 ≡ apply r-16 (g .kin .h5)
     → s ≡ subproblem1-within p1 p2 (g .kin .h2) tolerance

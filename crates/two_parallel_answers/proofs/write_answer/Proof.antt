@@ -7,13 +7,13 @@ use lib.Ieee.{Float}
 use Rattle.answers.specs.Written.{Wrote}
 use Rattle.answers.specs.declared.Answer.{Answer}
 use Rattle.answers.proofs.Laws.{by-name}
-use Rattle.search_error.specs.declared.Given.{Given}
-use Rattle.two_parallel_answers.specs.Given.{answer-at}
+use Rattle.search_error.specs.declared.Fixed.{Fixed}
+use Rattle.two_parallel_answers.specs.FixedAnswer.{answer-at}
 use Rattle.two_parallel_answers.specs.Pairs.{pair}
 use Rattle.two_parallel_answers.proofs.write_answer.Statement.{statement}
 use Rattle.two_parallel_answers.proofs.write_answer.Tie as tie
 
-met : (g : Given) (tolerance q1 : Float) (i : ℕ) {q : Answer} {a₀ a : List Float} {f₀ f : List ℕ} {r : ℕ}
+met : (g : Fixed) (tolerance q1 : Float) (i : ℕ) {q : Answer} {a₀ a : List Float} {f₀ f : List ℕ} {r : ℕ}
     → q ≡ answer-at g tolerance (pair q1 i)
     → Wrote (q ∷ []) a₀ f₀ a f r
     → Wrote (answer-at g tolerance (pair q1 i) ∷ []) a₀ f₀ a f r

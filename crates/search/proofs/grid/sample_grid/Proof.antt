@@ -8,14 +8,14 @@ use borrow.Author.Needs.{needs}
 use lib.Ieee.{Float, nan}
 use lib.ListN.{length, getD, length-set}
 use Rattle.search_definition.specs.Search.{angle, delta}
-use Rattle.search_error.specs.Given.{error-of, error-at}
+use Rattle.search_error.specs.Fixed.{error-of, error-at}
 use Rattle.search.specs.Searched.{Gridded}
 use Rattle.search_edge.proofs.EdgeSteps.{set-next}
 use Rattle.search.proofs.grid.sample_grid.Statement.{statement}
 use Rattle.search.proofs.grid.sample_grid.Tie as tie
 
 abbrev Inv-loop : tie.InvT-loop
-Inv-loop given n xs₀ y0₀ y1₀ y2₀ y3₀ evals₀ k₀ xs y0 y1 y2 y3 evals k =
+Inv-loop fixed n xs₀ y0₀ y1₀ y2₀ y3₀ evals₀ k₀ xs y0 y1 y2 y3 evals k =
     (k ≤ n + 1)
     × (evals ≡ k)
     × (length xs ≡ length xs₀)
@@ -23,10 +23,10 @@ Inv-loop given n xs₀ y0₀ y1₀ y2₀ y3₀ evals₀ k₀ xs y0 y1 y2 y3 eval
     × (length y1 ≡ length y1₀)
     × (length y2 ≡ length y2₀)
     × (length y3 ≡ length y3₀)
-    × Gridded (error-at given) n k xs y0 y1 y2 y3
+    × Gridded (error-at fixed) n k xs y0 y1 y2 y3
 
 abbrev μ-loop : tie.MeasureT-loop
-μ-loop given n xs₀ y0₀ y1₀ y2₀ y3₀ evals₀ k₀ xs y0 y1 y2 y3 evals k = n + 1 - k
+μ-loop fixed n xs₀ y0₀ y1₀ y2₀ y3₀ evals₀ k₀ xs y0 y1 y2 y3 evals k = n + 1 - k
 
 loop-holds : tie.Need-loop-holds Inv-loop μ-loop
 loop-holds c =
@@ -37,12 +37,12 @@ at-angle : (c : tie.After-angle Inv-loop μ-loop) → let h = c .before .before 
 unfolding angle delta
 at-angle c = c .angle .ensures
 
-component : (c : tie.After-error-given-q1 Inv-loop μ-loop) (i : ℕ) → let h = c .before .before .before in let a = h .before .before .before .before .before .before .args in getD (c .error-given-q1 .result) i nan ≡ error-at (a .given) i (angle (a .n) (h .loop .k))
+component : (c : tie.After-error-given-q1 Inv-loop μ-loop) (i : ℕ) → let h = c .before .before .before in let a = h .before .before .before .before .before .before .args in getD (c .error-given-q1 .result) i nan ≡ error-at (a .fixed) i (angle (a .n) (h .loop .k))
 unfolding error-at
 component c i =
     let h = c .before .before .before in
     let a = h .before .before .before .before .before .before .args in
-    ap (λ (l : List Float). getD l i nan) (c .error-given-q1 .ensures) ∙ ap (λ x. getD (error-of (a .given) x) i nan) (at-angle (c .before))
+    ap (λ (l : List Float). getD l i nan) (c .error-given-q1 .ensures) ∙ ap (λ x. getD (error-of (a .fixed) x) i nan) (at-angle (c .before))
 
 loop-again : tie.Need-loop-again Inv-loop μ-loop
 loop-again c =
@@ -59,10 +59,10 @@ loop-again c =
       simp length-set (h .loop .inv .6),
       record {
         angles = set-next (h .loop .xs) (angle (p .args .n)) k (at-angle (c .before)) (omega (arith, t, h .loop .inv .2, p .pre .1)) (h .loop .inv .7 .angles);
-        first = set-next (h .loop .y0) (λ j. error-at (p .args .given) 0 (angle (p .args .n) j)) k (component c 0) (omega (arith, t, h .loop .inv .3, p .pre .2)) (h .loop .inv .7 .first);
-        second = set-next (h .loop .y1) (λ j. error-at (p .args .given) 1 (angle (p .args .n) j)) k (component c 1) (omega (arith, t, h .loop .inv .4, p .pre .3)) (h .loop .inv .7 .second);
-        third = set-next (h .loop .y2) (λ j. error-at (p .args .given) 2 (angle (p .args .n) j)) k (component c 2) (omega (arith, t, h .loop .inv .5, p .pre .4)) (h .loop .inv .7 .third);
-        fourth = set-next (h .loop .y3) (λ j. error-at (p .args .given) 3 (angle (p .args .n) j)) k (component c 3) (omega (arith, t, h .loop .inv .6, p .pre .5)) (h .loop .inv .7 .fourth);
+        first = set-next (h .loop .y0) (λ j. error-at (p .args .fixed) 0 (angle (p .args .n) j)) k (component c 0) (omega (arith, t, h .loop .inv .3, p .pre .2)) (h .loop .inv .7 .first);
+        second = set-next (h .loop .y1) (λ j. error-at (p .args .fixed) 1 (angle (p .args .n) j)) k (component c 1) (omega (arith, t, h .loop .inv .4, p .pre .3)) (h .loop .inv .7 .second);
+        third = set-next (h .loop .y2) (λ j. error-at (p .args .fixed) 2 (angle (p .args .n) j)) k (component c 2) (omega (arith, t, h .loop .inv .5, p .pre .4)) (h .loop .inv .7 .third);
+        fourth = set-next (h .loop .y3) (λ j. error-at (p .args .fixed) 3 (angle (p .args .n) j)) k (component c 3) (omega (arith, t, h .loop .inv .6, p .pre .5)) (h .loop .inv .7 .fourth);
       },
     )
 
@@ -71,7 +71,7 @@ returns c =
     let h = c .before in
     let a = h .before .before .before .before .before .before .args in
     let e : h .loop .k ≡ a .n + 1 = omega (arith, c .loop-test .left) in
-    (h .loop .inv .1 ∙ e, subst (λ (m : ℕ). Gridded (error-at (a .given)) (a .n) m (h .loop .xs) (h .loop .y0) (h .loop .y1) (h .loop .y2) (h .loop .y3)) e (h .loop .inv .7))
+    (h .loop .inv .1 ∙ e, subst (λ (m : ℕ). Gridded (error-at (a .fixed)) (a .n) m (h .loop .xs) (h .loop .y0) (h .loop .y1) (h .loop .y2) (h .loop .y3)) e (h .loop .inv .7))
 
 pub sample-grid-spec : {M : Type 1} → statement M
 sample-grid-spec =

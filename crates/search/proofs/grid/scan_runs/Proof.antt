@@ -8,28 +8,28 @@ use borrow.Author.Needs.{needs}
 use lib.ListN.{length}
 use Rattle.search_definition.specs.Found.{grid, component}
 use Rattle.search_definition.specs.Search.{runs}
-use Rattle.search_error.specs.Given.{error-at}
+use Rattle.search_error.specs.Fixed.{error-at}
 use Rattle.search.specs.State.{row, state, afterwards}
 use Rattle.search_refine.proofs.RefineSteps.{passed, failed}
-use Rattle.search_dip.proofs.States.{after-two}
+use Rattle.search_pairs.proofs.States.{after-two}
 use Rattle.search.proofs.GridSteps.{runs-from, run-grows, run-ends, run-last, few-runs}
 use Rattle.search.proofs.grid.scan_runs.Statement.{statement}
 use Rattle.search.proofs.grid.scan_runs.Tie as tie
 
 abbrev Inv-loop : tie.InvT-loop
-Inv-loop given i xs ys n qs cs g s m₀ m =
-    (s + m ≤ n + 1) × (runs (error-at given i) i (row xs ys) (n + 1 - s) s 0 ≡ runs-from (error-at given i) i (row xs ys) n s m)
+Inv-loop fixed i xs ys n qs cs g s m₀ m =
+    (s + m ≤ n + 1) × (runs (error-at fixed i) i (row xs ys) (n + 1 - s) s 0 ≡ runs-from (error-at fixed i) i (row xs ys) n s m)
 
 abbrev μ-loop : tie.MeasureT-loop
-μ-loop given i xs ys n qs cs g s m₀ m = n + 1 - (s + m)
+μ-loop fixed i xs ys n qs cs g s m₀ m = n + 1 - (s + m)
 
 abbrev Inv-grid : tie.InvT-grid
-Inv-grid given i xs ys n qs₀ cs₀ g₀ s₀ qs cs g s =
+Inv-grid fixed i xs ys n qs₀ cs₀ g₀ s₀ qs cs g s =
     (s ≤ n + 1) × (length qs ≡ length qs₀) × (length cs ≡ length cs₀)
-    × (afterwards (state qs cs g) (runs (error-at given i) i (row xs ys) (n + 1 - s) s 0) ≡ afterwards (state qs₀ cs₀ g₀) (runs (error-at given i) i (row xs ys) (n + 1) 0 0))
+    × (afterwards (state qs cs g) (runs (error-at fixed i) i (row xs ys) (n + 1 - s) s 0) ≡ afterwards (state qs₀ cs₀ g₀) (runs (error-at fixed i) i (row xs ys) (n + 1) 0 0))
 
 abbrev μ-grid : tie.MeasureT-grid
-μ-grid given i xs ys n qs₀ cs₀ g₀ s₀ qs cs g s = n + 1 - s
+μ-grid fixed i xs ys n qs₀ cs₀ g₀ s₀ qs cs g s = n + 1 - s
 
 abbrev At : Type 0
 At = tie.At-grid Inv-loop μ-loop Inv-grid μ-grid
@@ -38,13 +38,13 @@ grid-holds : tie.Need-grid-holds Inv-loop μ-loop Inv-grid μ-grid
 grid-holds c =
     let a = c .before .before .before .before .args in
     let z : a .n + 1 - 0 ≡ a .n + 1 = omega arith in
-    (omega arith, refl, refl, ap (λ (k : ℕ). afterwards (state (now (a .qs)) (now (a .cs)) (a .f)) (runs (error-at (a .given) (a .i)) (a .i) (row (now (a .xs)) (now (a .ys))) k 0 0)) z)
+    (omega arith, refl, refl, ap (λ (k : ℕ). afterwards (state (now (a .qs)) (now (a .cs)) (a .f)) (runs (error-at (a .fixed) (a .i)) (a .i) (row (now (a .xs)) (now (a .ys))) k 0 0)) z)
 
 loop-holds : tie.Need-loop-holds Inv-loop μ-loop Inv-grid μ-grid
 loop-holds c =
     let a = c .before .before .before .before .before .args in
     let s = c .grid .s in
-    (omega (arith, c .grid .inv .0), ap (λ (k : ℕ). runs (error-at (a .given) (a .i)) (a .i) (row (now (a .xs)) (now (a .ys))) (a .n + 1 - k) s 0) (sym (add-zero s)))
+    (omega (arith, c .grid .inv .0), ap (λ (k : ℕ). runs (error-at (a .fixed) (a .i)) (a .i) (row (now (a .xs)) (now (a .ys))) (a .n + 1 - k) s 0) (sym (add-zero s)))
 
 loop-again : tie.Need-loop-again Inv-loop μ-loop Inv-grid μ-grid
 loop-again c =
@@ -52,13 +52,13 @@ loop-again c =
     let l = t .before in
     let g = l .before in
     let a = g .before .before .before .before .before .args in
-    (omega arith, run-grows (error-at (a .given) (a .i)) (a .i) (row (now (a .xs)) (now (a .ys))) (a .n) (g .grid .s) (l .loop .m) (t .loop-test .left) (passed _ (c .before .is-finite .ensures) (c .if1 .left)) (l .loop .inv .1))
+    (omega arith, run-grows (error-at (a .fixed) (a .i)) (a .i) (row (now (a .xs)) (now (a .ys))) (a .n) (g .grid .s) (l .loop .m) (t .loop-test .left) (passed _ (c .before .is-finite .ensures) (c .if1 .left)) (l .loop .inv .1))
 
 -- the place and the count stay small
 small : (g : At) → let a = g .before .before .before .before .before .args in (g .grid .g .pairs ≤ a .f .pairs + 11 * a .n) × (g .grid .g .evals ≤ a .f .evals + 782 * a .n)
 small g =
     let a = g .before .before .before .before .before .args in
-    few-runs (error-at (a .given) (a .i)) (a .i) (row (now (a .xs)) (now (a .ys))) (a .n) (state (now (a .qs)) (now (a .cs)) (a .f)) (state (g .grid .qs) (g .grid .cs) (g .grid .g)) _ (g .grid .inv .3)
+    few-runs (error-at (a .fixed) (a .i)) (a .i) (row (now (a .xs)) (now (a .ys))) (a .n) (state (now (a .qs)) (now (a .cs)) (a .f)) (state (g .grid .qs) (g .grid .cs) (g .grid .g)) _ (g .grid .inv .3)
 
 scan-samples-requires : tie.Need-scan-samples-requires Inv-loop μ-loop Inv-grid μ-grid
 scan-samples-requires c κs =
@@ -75,7 +75,7 @@ grid-again c =
     let l = t .before in
     let g = l .before in
     let a = g .before .before .before .before .before .args in
-    let f = error-at (a .given) (a .i) in
+    let f = error-at (a .fixed) (a .i) in
     let P = row (now (a .xs)) (now (a .ys)) in
     let S = state (g .grid .qs) (g .grid .cs) (g .grid .g) in (
       omega arith,
@@ -111,7 +111,7 @@ returns c =
     let a = g .before .before .before .before .before .args in
     let S = state (g .grid .qs) (g .grid .cs) (g .grid .g) in
     v .scan-samples2 .ensures (grid (a .i)) (λ p. refl)
-    ∙ sym (ap (afterwards S) (run-last (error-at (a .given) (a .i)) (a .i) (row (now (a .xs)) (now (a .ys))) (a .n) (g .grid .s) (l .loop .m) (t .loop-test .taken) (l .loop .inv .0) (l .loop .inv .1)))
+    ∙ sym (ap (afterwards S) (run-last (error-at (a .fixed) (a .i)) (a .i) (row (now (a .xs)) (now (a .ys))) (a .n) (g .grid .s) (l .loop .m) (t .loop-test .taken) (l .loop .inv .0) (l .loop .inv .1)))
     ∙ g .grid .inv .3
 
 pub scan-runs-spec : {M : Type 1} → statement M

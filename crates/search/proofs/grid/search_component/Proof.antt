@@ -3,9 +3,9 @@ use native.Mathlib.Omega.{arith}
 use denote.Ref.{now}
 use borrow.Author.Needs.{needs}
 use mathlib.Core.Path.{_∙_}
-use Rattle.search_error.specs.Given.{error-at}
+use Rattle.search_error.specs.Fixed.{error-at}
 use Rattle.search.specs.State.{row, state}
-use Rattle.search_dip.proofs.States.{after-nothing}
+use Rattle.search_pairs.proofs.States.{after-nothing}
 use Rattle.search.proofs.GridSteps.{component-done, few-runs}
 use Rattle.search.proofs.grid.search_component.Statement.{statement}
 use Rattle.search.proofs.grid.search_component.Tie as tie
@@ -15,7 +15,7 @@ scan-edges-requires c κs =
     let v = c .before .before .before .before .before .before in
     let p = v .before .before .before .before .before .before .before in
     let a = p .args in
-    let few = few-runs (error-at (a .given) (a .i)) (a .i) (row (now (a .xs)) (now (a .ys))) (a .n) (state (now (a .qs)) (now (a .cs)) (a .f)) _ _ (after-nothing _ ∙ v .scan-runs .ensures) in
+    let few = few-runs (error-at (a .fixed) (a .i)) (a .i) (row (now (a .xs)) (now (a .ys))) (a .n) (state (now (a .qs)) (now (a .cs)) (a .f)) _ _ (after-nothing _ ∙ v .scan-runs .ensures) in
     omega (arith, few, p .pre)
 
 returns : tie.Need-returns
@@ -23,7 +23,7 @@ returns c =
     let w = c .before .before .before .before in
     let v = w .before .before .before .before .before .before .before in
     let a = v .before .before .before .before .before .before .before .args in
-    component-done (error-at (a .given) (a .i)) (a .i) (row (now (a .xs)) (now (a .ys))) (a .n) (state (now (a .qs)) (now (a .cs)) (a .f)) (v .scan-runs .ensures) (w .scan-edges .ensures)
+    component-done (error-at (a .fixed) (a .i)) (a .i) (row (now (a .xs)) (now (a .ys))) (a .n) (state (now (a .qs)) (now (a .cs)) (a .f)) (v .scan-runs .ensures) (w .scan-edges .ensures)
 
 pub search-component-spec : {M : Type 1} → statement M
 search-component-spec =

@@ -4,9 +4,9 @@ use Prim.Native.Nat.{_+_, _*_, _≤_}
 use native.Mathlib.Omega.{arith}
 use denote.Ref.{now}
 use borrow.Author.Needs.{needs}
-use Rattle.search_error.specs.Given.{error-at}
+use Rattle.search_error.specs.Fixed.{error-at}
 use Rattle.search.specs.State.{row, state}
-use Rattle.search_dip.proofs.States.{after-two}
+use Rattle.search_pairs.proofs.States.{after-two}
 use Rattle.search.proofs.GridSteps.{few-more}
 use Rattle.search.proofs.grid.search_components.Statement.{statement}
 use Rattle.search.proofs.grid.search_components.Tie as tie
@@ -15,15 +15,15 @@ use Rattle.search.proofs.grid.search_components.Tie as tie
 few : (v : tie.After-search-component) → let p = v .before .before .before .before .before .before .before .before .before .before in (v .search-component .result .pairs ≤ p .args .f .pairs + 11 * p .args .n) × (v .search-component .result .evals ≤ p .args .f .evals + 782 * p .args .n)
 few v =
     let a = v .before .before .before .before .before .before .before .before .before .before .args in
-    few-more (error-at (a .given) 0) 0 (row (now (a .xs)) (now (a .y0))) (a .n) (state (now (a .qs)) (now (a .cs)) (a .f)) _ (v .search-component .ensures)
+    few-more (error-at (a .fixed) 0) 0 (row (now (a .xs)) (now (a .y0))) (a .n) (state (now (a .qs)) (now (a .cs)) (a .f)) _ (v .search-component .ensures)
 
 few2 : (w : tie.After-search-component2) → let v = w .before .before .before .before .before .before .before in let n = v .before .before .before .before .before .before .before .before .before .before .args .n in (w .search-component2 .result .pairs ≤ v .search-component .result .pairs + 11 * n) × (w .search-component2 .result .evals ≤ v .search-component .result .evals + 782 * n)
 few2 w =
-    let a = w .before .before .before .before .before .before .before .before .before .before .before .before .before .before .before .before .before .args in few-more (error-at (a .given) 1) 1 (row (now (a .xs)) (now (a .y1))) (a .n) _ _ (w .search-component2 .ensures)
+    let a = w .before .before .before .before .before .before .before .before .before .before .before .before .before .before .before .before .before .args in few-more (error-at (a .fixed) 1) 1 (row (now (a .xs)) (now (a .y1))) (a .n) _ _ (w .search-component2 .ensures)
 
 few3 : (u : tie.After-search-component3) → let w = u .before .before .before .before .before .before .before in let n = w .before .before .before .before .before .before .before .before .before .before .before .before .before .before .before .before .before .args .n in (u .search-component3 .result .pairs ≤ w .search-component2 .result .pairs + 11 * n) × (u .search-component3 .result .evals ≤ w .search-component2 .result .evals + 782 * n)
 few3 u =
-    let a = u .before .before .before .before .before .before .before .before .before .before .before .before .before .before .before .before .before .before .before .before .before .before .before .before .args in few-more (error-at (a .given) 2) 2 (row (now (a .xs)) (now (a .y2))) (a .n) _ _ (u .search-component3 .ensures)
+    let a = u .before .before .before .before .before .before .before .before .before .before .before .before .before .before .before .before .before .before .before .before .before .before .before .before .args in few-more (error-at (a .fixed) 2) 2 (row (now (a .xs)) (now (a .y2))) (a .n) _ _ (u .search-component3 .ensures)
 
 search-component-requires-2 : tie.Need-search-component-requires-2
 search-component-requires-2 c κs = let v = c .before .before .before .before .before .before in omega (arith, few v, v .before .before .before .before .before .before .before .before .before .before .pre)

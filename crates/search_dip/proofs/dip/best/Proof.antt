@@ -1,5 +1,5 @@
 -- `search::dip::best` meets its contract. Assumes nothing.
-use Rattle.search_dip.specs.State.{valley}
+use Rattle.search_dip.specs.Valley.{valley}
 use Rattle.search_dip.proofs.DipSteps.{best-of}
 use Rattle.search_dip.proofs.dip.best.Statement.{statement}
 use Rattle.search_dip.proofs.dip.best.Tie as tie

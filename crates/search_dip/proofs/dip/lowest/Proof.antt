@@ -3,19 +3,19 @@ use mathlib.Core.Path.{ap}
 use Prim.Native.Nat.{_+_, _-_, _≤_}
 use native.Mathlib.Omega.{arith}
 use borrow.Author.Needs.{needs}
-use Rattle.search_error.specs.Given.{error-at}
+use Rattle.search_error.specs.Fixed.{error-at}
 use Rattle.search_refine.specs.Counted.{evals-of}
-use Rattle.search_dip.specs.State.{valley}
+use Rattle.search_dip.specs.Valley.{valley}
 use Rattle.search_dip.proofs.DipSteps.{Going, lowest-starts, lowest-goes, lowest-leaves, lowest-ends}
 use Rattle.search_dip.proofs.dip.lowest.Statement.{statement}
 use Rattle.search_dip.proofs.dip.lowest.Tie as tie
 
 abbrev Inv-loop : tie.InvT-loop
-Inv-loop given i sign a b v₀ counter₀ v counter =
-    (counter ≤ 16) × (v .evals ≤ counter + 2) × Going (error-at given i) sign a b (valley v) (v .evals) counter
+Inv-loop fixed i sign a b v₀ counter₀ v counter =
+    (counter ≤ 16) × (v .evals ≤ counter + 2) × Going (error-at fixed i) sign a b (valley v) (v .evals) counter
 
 abbrev μ-loop : tie.MeasureT-loop
-μ-loop given i sign a b v₀ counter₀ v counter = 16 - counter
+μ-loop fixed i sign a b v₀ counter₀ v counter = 16 - counter
 
 loop-holds : tie.Need-loop-holds Inv-loop μ-loop
 loop-holds c = (omega arith, omega (arith, ap evals-of (c .opened .ensures)), lowest-starts _ _ _ _ (c .opened .ensures))
@@ -30,7 +30,7 @@ loop-again c =
     let a = p5 .before .before .args in (
       omega arith,
       omega (arith, p5 .loop .inv .1, ap evals-of (p2 .before .moved .ensures), ap evals-of (p2 .best .ensures)),
-      lowest-goes (error-at (a .given) (a .i)) (a .sign) (a .a) (a .b) (valley (p5 .loop .v)) (p5 .loop .v .evals) (p5 .loop .counter) (p5 .loop .inv .2) (p2 .before .moved .ensures) (p2 .best .ensures) (omega arith) (c .if1 .left),
+      lowest-goes (error-at (a .fixed) (a .i)) (a .sign) (a .a) (a .b) (valley (p5 .loop .v)) (p5 .loop .v .evals) (p5 .loop .counter) (p5 .loop .inv .2) (p2 .before .moved .ensures) (p2 .best .ensures) (omega arith) (c .if1 .left),
     )
 
 returns : tie.Need-returns Inv-loop μ-loop
@@ -41,7 +41,7 @@ returns-2 c =
     let p2 = c .before .before in
     let p5 = p2 .before .before .before in
     let a = p5 .before .before .args in
-    lowest-leaves (error-at (a .given) (a .i)) (a .sign) (a .a) (a .b) (valley (p5 .loop .v)) (p5 .loop .v .evals) (p5 .loop .counter) (p5 .loop .inv .2) (p2 .before .moved .ensures) (p2 .best .ensures) (omega arith) (c .if1 .taken)
+    lowest-leaves (error-at (a .fixed) (a .i)) (a .sign) (a .a) (a .b) (valley (p5 .loop .v)) (p5 .loop .v .evals) (p5 .loop .counter) (p5 .loop .inv .2) (p2 .before .moved .ensures) (p2 .best .ensures) (omega arith) (c .if1 .taken)
 
 pub lowest-spec : {M : Type 1} → statement M
 lowest-spec =

@@ -1,6 +1,6 @@
 -- `search::dip::moved` meets its contract. Assumes nothing.
 use borrow.Author.Needs.{needs}
-use Rattle.search_dip.specs.State.{valley}
+use Rattle.search_dip.specs.Valley.{valley}
 use Rattle.search_dip.proofs.DipSteps.{moved-left, moved-right}
 use Rattle.search_dip.proofs.dip.moved.Statement.{statement}
 use Rattle.search_dip.proofs.dip.moved.Tie as tie

@@ -3,7 +3,7 @@ use mathlib.Core.Path.{_≡_, refl, ap}
 use Prim.Native.Nat.{_+_, _-_, _≤_}
 use native.Mathlib.Omega.{arith}
 use Rattle.search_definition.specs.Search.{bisect}
-use Rattle.search_error.specs.Given.{error-at}
+use Rattle.search_error.specs.Fixed.{error-at}
 use Rattle.search_refine.specs.Counted.{counted, evals-of}
 use Rattle.search_edge.specs.State.{gap}
 use Rattle.search_edge.proofs.EdgeSteps.{bisect-step, bisect-end}
@@ -11,12 +11,12 @@ use Rattle.search_edge.proofs.edge.bisect.Statement.{statement}
 use Rattle.search_edge.proofs.edge.bisect.Tie as tie
 
 abbrev Inv-loop : tie.InvT-loop
-Inv-loop given i g counter₀ h counter =
+Inv-loop fixed i g counter₀ h counter =
     (counter ≤ 16) × (h .evals ≤ g .evals + counter)
-    × (counted (h .evals) (bisect (error-at given i) (16 - counter) (gap h)) ≡ counted (g .evals) (bisect (error-at given i) 16 (gap g)))
+    × (counted (h .evals) (bisect (error-at fixed i) (16 - counter) (gap h)) ≡ counted (g .evals) (bisect (error-at fixed i) 16 (gap g)))
 
 abbrev μ-loop : tie.MeasureT-loop
-μ-loop given i g counter₀ h counter = 16 - counter
+μ-loop fixed i g counter₀ h counter = 16 - counter
 
 loop-holds : tie.Need-loop-holds Inv-loop μ-loop
 loop-holds c = (omega arith, omega arith, refl)
@@ -30,13 +30,13 @@ loop-again c =
     let a = h .before .args in (
       omega arith,
       omega (arith, h .loop .inv .1, ap evals-of (c .halved .ensures)),
-      bisect-step (error-at (a .given) (a .i)) (h .loop .counter) (gap (h .loop .h)) (h .loop .h .evals) _ (omega arith) (h .loop .inv .2) (c .halved .ensures),
+      bisect-step (error-at (a .fixed) (a .i)) (h .loop .counter) (gap (h .loop .h)) (h .loop .h .evals) _ (omega arith) (h .loop .inv .2) (c .halved .ensures),
     )
 
 returns : tie.Need-returns Inv-loop μ-loop
 returns c =
     let h = c .before in
-    bisect-end (error-at (h .before .args .given) (h .before .args .i)) (h .loop .counter) (gap (h .loop .h)) (h .loop .h .evals) _ (omega arith) (h .loop .inv .2)
+    bisect-end (error-at (h .before .args .fixed) (h .before .args .i)) (h .loop .counter) (gap (h .loop .h)) (h .loop .h .evals) _ (omega arith) (h .loop .inv .2)
 
 pub bisect-spec : {M : Type 1} → statement M
 bisect-spec =

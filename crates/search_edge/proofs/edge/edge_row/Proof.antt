@@ -6,20 +6,20 @@ use denote.Ref.{now}
 use borrow.Author.Needs.{needs}
 use lib.ListN.{length, length-set}
 use Rattle.search_definition.specs.Search.{edge-points}
-use Rattle.search_error.specs.Given.{error-at}
+use Rattle.search_error.specs.Fixed.{error-at}
 use Rattle.search_refine.specs.Counted.{counted}
-use Rattle.search_dip.specs.State.{point, row, firsts}
+use Rattle.search_pairs.specs.State.{point, row, firsts}
 use Rattle.search_edge.proofs.EdgeSteps.{still, pushed, row-starts, row-next, row-done}
 use Rattle.search_edge.proofs.edge.edge_row.Statement.{statement}
 use Rattle.search_edge.proofs.edge.edge_row.Tie as tie
 
 abbrev Inv-loop : tie.InvT-loop
-Inv-loop given i lo y-lo x y evals xs₀ ys₀ m₀ n₀ j₀ xs ys m n j =
+Inv-loop fixed i lo y-lo x y evals xs₀ ys₀ m₀ n₀ j₀ xs ys m n j =
     (1 ≤ j) × (j ≤ 8) × (m ≤ j) × (n + 1 ≤ evals + j) × (length xs ≡ 9) × (length ys ≡ 9)
-    × (counted n (still (error-at given i) (point lo y-lo) (point x y) (firsts (row xs ys) m) j) ≡ counted evals (edge-points (error-at given i) (point lo y-lo) (point x y)))
+    × (counted n (still (error-at fixed i) (point lo y-lo) (point x y) (firsts (row xs ys) m) j) ≡ counted evals (edge-points (error-at fixed i) (point lo y-lo) (point x y)))
 
 abbrev μ-loop : tie.MeasureT-loop
-μ-loop given i lo y-lo x y evals xs₀ ys₀ m₀ n₀ j₀ xs ys m n j = 8 - j
+μ-loop fixed i lo y-lo x y evals xs₀ ys₀ m₀ n₀ j₀ xs ys m n j = 8 - j
 
 loop-holds : tie.Need-loop-holds Inv-loop μ-loop
 unfolding firsts
@@ -32,7 +32,7 @@ loop-holds c =
       omega arith,
       length-set (now (a .xs)) 0 (a .lo) ∙ p .pre .2,
       length-set (now (a .ys)) 0 (a .y-lo) ∙ p .pre .3,
-      row-starts (error-at (a .given) (a .i)) (point (a .lo) (a .y-lo)) (point (a .x) (a .y)) (a .evals) (pushed (now (a .xs)) (now (a .ys)) 0 (a .lo) (a .y-lo) (omega (arith, p .pre .2)) (omega (arith, p .pre .3))),
+      row-starts (error-at (a .fixed) (a .i)) (point (a .lo) (a .y-lo)) (point (a .x) (a .y)) (a .evals) (pushed (now (a .xs)) (now (a .ys)) 0 (a .lo) (a .y-lo) (omega (arith, p .pre .2)) (omega (arith, p .pre .3))),
     )
 
 add-n : tie.Need-add-n Inv-loop μ-loop
@@ -57,7 +57,7 @@ loop-again c =
       omega (arith, h .loop .inv .3),
       k .keep-finite .kept .1 .1 .0 ∙ h .loop .inv .4,
       k .keep-finite .kept .1 .1 .1 .0 ∙ h .loop .inv .5,
-      row-next (error-at (a .given) (a .i)) (point (a .lo) (a .y-lo)) (point (a .x) (a .y)) (firsts (row (h .loop .xs) (h .loop .ys)) (h .loop .m)) (h .loop .j) (h .loop .n) _ (s .before .loop-test .taken) (h .loop .inv .6) (s .share .ensures) (e .error-at .ensures) (k .keep-finite .ensures .1),
+      row-next (error-at (a .fixed) (a .i)) (point (a .lo) (a .y-lo)) (point (a .x) (a .y)) (firsts (row (h .loop .xs) (h .loop .ys)) (h .loop .m)) (h .loop .j) (h .loop .n) _ (s .before .loop-test .taken) (h .loop .inv .6) (s .share .ensures) (e .error-at .ensures) (k .keep-finite .ensures .1),
     )
 
 same-length : tie.Need-same-length Inv-loop μ-loop
@@ -71,7 +71,7 @@ returns c =
     let h = c .before in
     let a = h .before .before .before .args in (
       omega arith,
-      row-done (error-at (a .given) (a .i)) (point (a .lo) (a .y-lo)) (point (a .x) (a .y)) (firsts (row (h .loop .xs) (h .loop .ys)) (h .loop .m)) (h .loop .j) (h .loop .n) _ (c .loop-test .left) (h .loop .inv .6)
+      row-done (error-at (a .fixed) (a .i)) (point (a .lo) (a .y-lo)) (point (a .x) (a .y)) (firsts (row (h .loop .xs) (h .loop .ys)) (h .loop .m)) (h .loop .j) (h .loop .n) _ (c .loop-test .left) (h .loop .inv .6)
           (pushed (h .loop .xs) (h .loop .ys) (h .loop .m) (a .x) (a .y) (omega (arith, h .loop .inv .4)) (omega (arith, h .loop .inv .5))),
     )
 

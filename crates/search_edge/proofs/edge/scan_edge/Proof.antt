@@ -6,11 +6,11 @@ use denote.Ref.{now}
 use borrow.Author.Needs.{needs}
 use mathlib.Core.List.{reverse}
 use Rattle.search_definition.proofs.Bounds.{bisect-asks, edge-points-asks}
-use Rattle.search_error.specs.Given.{error-at}
+use Rattle.search_error.specs.Fixed.{error-at}
 use Rattle.search_refine.specs.Counted.{evals-of}
-use Rattle.search_dip.specs.State.{point, row, held}
+use Rattle.search_pairs.specs.State.{point, row, held}
 use Rattle.search_edge.specs.State.{gap}
-use Rattle.search_edge.proofs.EdgeSteps.{turned-row, edge-straight, edge-turned}
+use Rattle.search_edge.proofs.EdgeSteps.{reversed-row, edge-straight, edge-reversed}
 use Rattle.search_edge.proofs.edge.scan_edge.Statement.{statement}
 use Rattle.search_edge.proofs.edge.scan_edge.Tie as tie
 
@@ -18,13 +18,13 @@ use Rattle.search_edge.proofs.edge.scan_edge.Tie as tie
 few : (b : tie.After-bisect) → b .bisect .result .evals ≡ b .before .before .before .args .g .evals + 16
 few b =
     let a = b .before .before .before .args in
-    ap evals-of (b .bisect .ensures) ∙ ap (λ n. a .g .evals + n) (bisect-asks (error-at (a .given) (a .i)) 16 (gap (a .g)))
+    ap evals-of (b .bisect .ensures) ∙ ap (λ n. a .g .evals + n) (bisect-asks (error-at (a .fixed) (a .i)) 16 (gap (a .g)))
 
 few-more : (w : tie.After-edge-row) → w .edge-row .result .evals ≡ w .before .before .before .before .before .before .args .g .evals + 23
 few-more w =
     let b = w .before .before .before in
     let a = b .before .before .before .args in
-    omega (arith, few b, ap evals-of (w .edge-row .ensures .1), edge-points-asks (error-at (a .given) (a .i)) (gap (b .bisect .result) .inside) (gap (a .g) .inside))
+    omega (arith, few b, ap evals-of (w .edge-row .ensures .1), edge-points-asks (error-at (a .fixed) (a .i)) (gap (b .bisect .result) .inside) (gap (a .g) .inside))
 
 edge-row-requires : tie.Need-edge-row-requires
 edge-row-requires c κs =
@@ -47,8 +47,8 @@ returns c =
     let b = w .before .before .before in
     let a = b .before .before .before .args in
     λ o d.
-    edge-turned (error-at (a .given) (a .i)) o (gap (a .g)) (held (now (a .qs)) (now (a .cs)) (a .pairs) (a .g .evals)) _ (w .edge-row .result .len) (b .bisect .ensures) (w .edge-row .ensures .1) (v .scan-samples .ensures o d) (t .if1 .taken)
-    (turned-row _ _ (w .edge-row .result .len) (λ j h. ap₂ point (x .turn-round .ensures j h) (y .turn-round2 .ensures j h)))
+    edge-reversed (error-at (a .fixed) (a .i)) o (gap (a .g)) (held (now (a .qs)) (now (a .cs)) (a .pairs) (a .g .evals)) _ (w .edge-row .result .len) (b .bisect .ensures) (w .edge-row .ensures .1) (v .scan-samples .ensures o d) (t .if1 .taken)
+    (reversed-row _ _ (w .edge-row .result .len) (λ j h. ap₂ point (x .reverse-row .ensures j h) (y .reverse-row2 .ensures j h)))
 
 scan-samples-requires-2 : tie.Need-scan-samples-requires-2
 scan-samples-requires-2 c κs =
@@ -63,7 +63,7 @@ returns-2 c =
     let b = w .before .before .before in
     let a = b .before .before .before .args in
     λ o d.
-    edge-straight (error-at (a .given) (a .i)) o (gap (a .g)) (held (now (a .qs)) (now (a .cs)) (a .pairs) (a .g .evals)) _ (w .edge-row .result .len) (b .bisect .ensures) (w .edge-row .ensures .1) (v .scan-samples2 .ensures o d) (t .if1 .left) refl
+    edge-straight (error-at (a .fixed) (a .i)) o (gap (a .g)) (held (now (a .qs)) (now (a .cs)) (a .pairs) (a .g .evals)) _ (w .edge-row .result .len) (b .bisect .ensures) (w .edge-row .ensures .1) (v .scan-samples2 .ensures o d) (t .if1 .left) refl
 
 pub scan-edge-spec : {M : Type 1} → statement M
 scan-edge-spec =

@@ -6,10 +6,10 @@ use Rattle.search_parts.proofs.parts.check_places.Statement.{statement}
 use Rattle.search_parts.proofs.parts.check_places.Tie as tie
 
 abbrev Inv-loop : tie.InvT-loop
-Inv-loop given i n xs ys book m tally₀ ok j₀ tally j = Unit {0}
+Inv-loop fixed i n xs ys book m tally₀ ok j₀ tally j = Unit {0}
 
 abbrev μ-loop : tie.MeasureT-loop
-μ-loop given i n xs ys book m tally₀ ok j₀ tally j = m - j
+μ-loop fixed i n xs ys book m tally₀ ok j₀ tally j = m - j
 
 crossings-requires : tie.Need-crossings-requires Inv-loop μ-loop
 crossings-requires c κs = search needs

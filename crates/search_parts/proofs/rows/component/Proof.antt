@@ -6,10 +6,10 @@ use Rattle.search_parts.proofs.rows.component.Statement.{statement}
 use Rattle.search_parts.proofs.rows.component.Tie as tie
 
 abbrev Inv-loop : tie.InvT-loop
-Inv-loop given i n xs ys qs₀ cs₀ rows₀ g₀ k₀ qs cs rows g k = Unit {0}
+Inv-loop fixed i n xs ys qs₀ cs₀ rows₀ g₀ k₀ qs cs rows g k = Unit {0}
 
 abbrev μ-loop : tie.MeasureT-loop
-μ-loop given i n xs ys qs₀ cs₀ rows₀ g₀ k₀ qs cs rows g k = n - k
+μ-loop fixed i n xs ys qs₀ cs₀ rows₀ g₀ k₀ qs cs rows g k = n - k
 
 grid-requires : tie.Need-grid-requires Inv-loop μ-loop
 grid-requires c κs = search needs

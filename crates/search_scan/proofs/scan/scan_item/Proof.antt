@@ -5,8 +5,8 @@ use denote.Ref.{now}
 use borrow.Author.Needs.{needs}
 use Rattle.search_definition.specs.Found.{Part, crossing, inner}
 use Rattle.search_definition.specs.Scan.{alike, crosses, dips}
-use Rattle.search_error.specs.Given.{error-at}
-use Rattle.search_dip.specs.State.{state, row}
+use Rattle.search_error.specs.Fixed.{error-at}
+use Rattle.search_pairs.specs.State.{state, row}
 use Rattle.search_scan.proofs.ScanSteps.{item-crossing, item-inner, inner-is, inner-none}
 use Rattle.search_scan.proofs.scan.scan_item.Statement.{statement}
 use Rattle.search_scan.proofs.scan.scan_item.Tie as tie
@@ -18,7 +18,7 @@ returns c =
     let t = d .before .before .before in
     let a = t .before .before .before .before .before .before .before .before .before .before .args in
     λ o e.
-    item-crossing (error-at (a .given) (a .i)) o (row (now (a .xs)) (now (a .ys))) (a .l) (state (now (a .qs)) (now (a .cs)) (a .f)) (a .end - (a .l + 2)) (t .before .crosses .ensures) (t .if1 .taken)
+    item-crossing (error-at (a .fixed) (a .i)) o (row (now (a .xs)) (now (a .ys))) (a .l) (state (now (a .qs)) (now (a .cs)) (a .f)) (a .end - (a .l + 2)) (t .before .crosses .ensures) (t .if1 .taken)
     (d .put-refined .ensures (o (crossing (a .l))) (e (crossing (a .l))))
 
 returns-2 : tie.Need-returns-2
@@ -29,7 +29,7 @@ returns-2 c =
     let l = q .before .before .before in
     let w = l .before .before in
     let a = w .before .before .before .before .before .before .before .before .before .args in
-    let f = error-at (a .given) (a .i) in
+    let f = error-at (a .fixed) (a .i) in
     let P = row (now (a .xs)) (now (a .ys)) in
     let s = state (now (a .qs)) (now (a .cs)) (a .f) in
     let n = a .end - (a .l + 2) in
@@ -42,7 +42,7 @@ unfolding crosses alike
 returns-3 c =
     let w = c .before .before in
     let a = w .before .before .before .before .before .before .before .before .before .args in
-    let f = error-at (a .given) (a .i) in
+    let f = error-at (a .fixed) (a .i) in
     let P = row (now (a .xs)) (now (a .ys)) in
     let s = state (now (a .qs)) (now (a .cs)) (a .f) in
     let n = a .end - (a .l + 2) in
