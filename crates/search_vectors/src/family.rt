@@ -44,7 +44,7 @@ pub fn check(head: &[u8; 432], book: &[u8; 1830400], n: usize, m: usize, tally: 
     let kin = record::arm(head);
     let r = record::rotation(head);
     let p = record::place(head);
-    let c = two_parallel::two_parallel(r, p, kin, TOLERANCE, n, &mut angles, &mut flags);
+    let c = family6::two_parallel(r, p, kin, TOLERANCE, n, &mut angles, &mut flags);
     let ok = record::counts(head, c.answers as u64, c.evals);
     cases::count(tally, record::CHECKS, record::SOLVES, ok);
     check_answers(book, m, &angles, &flags, tally);

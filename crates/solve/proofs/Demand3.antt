@@ -15,7 +15,7 @@ use Rattle.search_definition.proofs.Demand.{demand-3}
 use Rattle.search_error.proofs.Strict.{strict}
 use Rattle.search.specs.Demand.{two-parallel-search}
 use Rattle.search.proofs.Listed.{within}
-use Rattle.two_parallel.specs.TwoParallel.{answer-of, two-parallel, evaluations}
+use Rattle.family6.specs.TwoParallel.{answer-of, two-parallel, evaluations}
 use Rattle.refusals.specs.Judge.{judge}
 use Rattle.solve.specs.Solve.{Full, tolerance, by-family, full, answers, solve}
 use Rattle.solve.specs.Demand3.{err, definition, answered, Finite, SolveDemand3}

@@ -16,7 +16,7 @@ use Rattle.search_definition.specs.Search.{search-1d-bracketed}
 use Rattle.search_definition.specs.Demand.{Demand3}
 use Rattle.search_error.specs.Error as Error
 use Rattle.search_error.specs.Error.{error-i}
-use Rattle.two_parallel.specs.TwoParallel.{answer-of}
+use Rattle.family6.specs.TwoParallel.{answer-of}
 use Rattle.refusals.specs.Judge.{all-finite}
 use Rattle.solve.specs.Solve.{tolerance, answers, solve}
 

@@ -20,8 +20,8 @@ use Rattle.families.specs.SphericalTwoIntersecting.{spherical-two-intersecting}
 use Rattle.families.specs.Spherical.{spherical}
 use Rattle.families.specs.ThreeParallelTwoIntersecting.{three-parallel-two-intersecting}
 use Rattle.families.specs.ThreeParallel.{three-parallel}
-use Rattle.two_parallel.specs.TwoParallel.{two-parallel, evaluations}
-use Rattle.two_parallel.specs.declared.AnswerCounts.{AnswerCounts}
+use Rattle.family6.specs.TwoParallel.{two-parallel, evaluations}
+use Rattle.family6.specs.declared.AnswerCounts.{AnswerCounts}
 use Rattle.refusals.specs.Judge.{judge, refusal-9}
 use Rattle.solve.specs.declared.Solved.{Solved}
 

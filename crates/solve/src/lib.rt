@@ -1,12 +1,12 @@
 // The solve call: it judges its input, solves for the family, and gives the refusal and the counts.
 // It equals its definition in specs/ on every input: any family, any n, slices of any length, any
 // numbers.
+use family6::AnswerCounts;
 use kinematics::Kinematics;
 use linear::Matrix3;
 use linear::Vector3;
 use refusals::judge;
 use refusals::refusal_9;
-use two_parallel::AnswerCounts;
 ghost use mathlib.Core.Path.{_≡_};
 ghost use mathlib.Core.Bool.{true};
 ghost use Prim.Native.Nat.{_≤_};
@@ -68,7 +68,7 @@ fn by_family(
             flags,
         )),
         5 => without_search(families::three_parallel(r, p, kin, tolerance, angles, flags)),
-        _ => two_parallel::two_parallel(r, p, kin, tolerance, n as usize, angles, flags),
+        _ => family6::two_parallel(r, p, kin, tolerance, n as usize, angles, flags),
     }
 }
 

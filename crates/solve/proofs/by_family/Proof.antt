@@ -16,8 +16,8 @@ use Rattle.families.specs.SphericalTwoIntersecting.{spherical-two-intersecting}
 use Rattle.families.specs.Spherical.{spherical}
 use Rattle.families.specs.ThreeParallelTwoIntersecting.{three-parallel-two-intersecting}
 use Rattle.families.specs.ThreeParallel.{three-parallel}
-use Rattle.two_parallel.specs.TwoParallel.{two-parallel, evaluations}
-use Rattle.two_parallel.specs.declared.AnswerCounts.{AnswerCounts}
+use Rattle.family6.specs.TwoParallel.{two-parallel, evaluations}
+use Rattle.family6.specs.declared.AnswerCounts.{AnswerCounts}
 use Rattle.solve.specs.Solve.{Full, no-search, by-family, Solves}
 use Rattle.solve.proofs.by_family.Statement.{statement}
 use Rattle.solve.proofs.by_family.Tie as tie

@@ -14,7 +14,7 @@ use Rattle.kinematics.specs.Pose.{pose-rotation, pose-place}
 use Rattle.kinematics.specs.declared.Kinematics.{Kinematics}
 use Rattle.answers.specs.Written.{room, written, flagged}
 use Rattle.answers.proofs.Laws.{nothing}
-use Rattle.two_parallel.specs.declared.AnswerCounts.{AnswerCounts}
+use Rattle.family6.specs.declared.AnswerCounts.{AnswerCounts}
 use Rattle.refusals.specs.Judge.{judge, refusal-9, samples-fit}
 use Rattle.solve.specs.Solve.{Full, no-search, tolerance, by-family, full, answers, solve, Solves}
 use Rattle.solve.specs.declared.Solved.{Solved}

@@ -7,9 +7,9 @@ use Rattle.subproblems.specs.Subproblem1.{subproblem1-within}
 use Rattle.subproblems.specs.declared.Solved1.{Solved1}
 use Rattle.search_error.specs.Fixed.{rotation}
 use Rattle.search_error.specs.declared.Fixed.{Fixed}
-use Rattle.two_parallel_answers.specs.FixedAnswer.{q5}
-use Rattle.two_parallel_answers.proofs.q5.Statement.{statement}
-use Rattle.two_parallel_answers.proofs.q5.Tie as tie
+use Rattle.family6_answers.specs.FixedAnswer.{q5}
+use Rattle.family6_answers.proofs.q5.Statement.{statement}
+use Rattle.family6_answers.proofs.q5.Tie as tie
 
 met : (g : Fixed) (tolerance q1 : Float) (r-34 r-56 : Matrix)
     {r-01 r-06 r-60 r-50 r-43 r-51 : Matrix}

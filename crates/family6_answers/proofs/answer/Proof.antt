@@ -11,9 +11,9 @@ use Rattle.answers.specs.declared.Answer.{Answer}
 use Rattle.search_error.specs.Fixed.{rotation-given-q1}
 use Rattle.search_error.specs.declared.Fixed.{Fixed}
 use Rattle.search_error.specs.declared.GivenQ1.{GivenQ1}
-use Rattle.two_parallel_answers.specs.FixedAnswer.{t23, q2, q5, answer}
-use Rattle.two_parallel_answers.proofs.answer.Statement.{statement}
-use Rattle.two_parallel_answers.proofs.answer.Tie as tie
+use Rattle.family6_answers.specs.FixedAnswer.{t23, q2, q5, answer}
+use Rattle.family6_answers.proofs.answer.Statement.{statement}
+use Rattle.family6_answers.proofs.answer.Tie as tie
 
 met : (g : Fixed) (tolerance q1 : Float) (t : GivenQ1) (a : Pair)
     {r-34 r-56 m r-65 r-16 : Matrix}

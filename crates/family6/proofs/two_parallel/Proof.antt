@@ -20,13 +20,13 @@ use Rattle.search_error.specs.declared.Fixed.{Fixed}
 use Rattle.search_pairs.specs.State.{angle-of, component-of}
 use Rattle.search.specs.Searched.{Searched, search-within}
 use Rattle.search_pairs.specs.declared.SearchCounts.{SearchCounts}
-use Rattle.two_parallel_answers.specs.FixedAnswer.{answer-at}
-use Rattle.two_parallel_answers.specs.Pairs.{first-pairs, AllAnswered}
-use Rattle.two_parallel.specs.TwoParallel.{answer-of, two-parallel, evaluations}
-use Rattle.two_parallel.proofs.SameAnswer.{answer-at-same}
-use Rattle.two_parallel.proofs.Held.{pairs-fit, all-answered, search-held, search-evals}
-use Rattle.two_parallel.proofs.two_parallel.Statement.{statement}
-use Rattle.two_parallel.proofs.two_parallel.Tie as tie
+use Rattle.family6_answers.specs.FixedAnswer.{answer-at}
+use Rattle.family6_answers.specs.Pairs.{first-pairs, AllAnswered}
+use Rattle.family6.specs.TwoParallel.{answer-of, two-parallel, evaluations}
+use Rattle.family6.proofs.SameAnswer.{answer-at-same}
+use Rattle.family6.proofs.Held.{pairs-fit, all-answered, search-held, search-evals}
+use Rattle.family6.proofs.two_parallel.Statement.{statement}
+use Rattle.family6.proofs.two_parallel.Tie as tie
 
 module _ (kin : Kinematics) (r-06 : Matrix) (p-0t : Vector3) (n : ℕ) {g : Fixed} (e : g ≡ fixed kin r-06 p-0t) (q : List Float) (c : List ℕ) {q′ : List Float} {c′ : List ℕ} {r : SearchCounts} (w : Searched (search-within (error-at g) n) q c q′ c′ r) (lq : length q ≡ 17600) (lc : length c ≡ 17600) where
   asked : (r .pairs ≤ 17600) × (r .pairs ≤ length q′) × (r .pairs ≤ length c′) × AllAnswered g (r .pairs) q′ c′

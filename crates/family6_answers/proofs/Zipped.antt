@@ -8,7 +8,7 @@ use lib.Ieee.{Float, nan}
 use lib.ListN.{length, take, getD}
 use lib.Seq.{getD-take, length-take-le}
 use Rattle.search_definition.specs.Found.{SearchPair}
-use Rattle.two_parallel_answers.specs.Pairs.{pair, zipped, first-pairs}
+use Rattle.family6_answers.specs.Pairs.{pair, zipped, first-pairs}
 
 zipped-at : (qs : List Float) (cs : List ℕ) (j : ℕ) (d : SearchPair) → j < length qs → j < length cs → getD (zipped qs cs) j d ≡ pair (getD qs j nan) (getD cs j 0)
 unfolding zipped

@@ -9,10 +9,10 @@ use Rattle.answers.specs.declared.Answer.{Answer}
 use Rattle.search_error.specs.Fixed.{given-q1, t64}
 use Rattle.search_error.specs.declared.Fixed.{Fixed}
 use Rattle.search_error.specs.declared.GivenQ1.{GivenQ1}
-use Rattle.two_parallel_answers.specs.FixedAnswer.{answer, answer-at}
-use Rattle.two_parallel_answers.specs.Pairs.{pair, Answered}
-use Rattle.two_parallel_answers.proofs.answer_at.Statement.{statement}
-use Rattle.two_parallel_answers.proofs.answer_at.Tie as tie
+use Rattle.family6_answers.specs.FixedAnswer.{answer, answer-at}
+use Rattle.family6_answers.specs.Pairs.{pair, Answered}
+use Rattle.family6_answers.proofs.answer_at.Statement.{statement}
+use Rattle.family6_answers.proofs.answer_at.Tie as tie
 
 module _ (g : Fixed) (q1 : Float) (i : ℕ) {t : GivenQ1} {set : PairSet4} (et : t ≡ given-q1 g q1) (es : set ≡ t64 g t) where
   in-bounds : Answered g q1 i → i < size set

@@ -1,13 +1,13 @@
 // Family 6: two_parallel of inverse_kinematics/mod.rs. The search's pairs (q1, i) are kept in two local
 // lists, and one loop writes the answer of each, so that all are counted before one is written.
+use family6_answers::write_answers;
 use kinematics::Kinematics;
 use linear::Matrix3;
 use linear::Vector3;
 use search_error::Fixed;
-use two_parallel_answers::write_answers;
 ghost use mathlib.Core.Path.{_≡_};
 ghost use Rattle.answers.specs.Written.{Wrote};
-ghost use Rattle.two_parallel.specs.TwoParallel.{two-parallel, evaluations};
+ghost use Rattle.family6.specs.TwoParallel.{two-parallel, evaluations};
 
 // How many answers there are, and how often the search's error was evaluated.
 pub struct AnswerCounts {

@@ -8,10 +8,10 @@ use Rattle.answers.specs.Written.{Wrote}
 use Rattle.answers.specs.declared.Answer.{Answer}
 use Rattle.answers.proofs.Laws.{by-name}
 use Rattle.search_error.specs.declared.Fixed.{Fixed}
-use Rattle.two_parallel_answers.specs.FixedAnswer.{answer-at}
-use Rattle.two_parallel_answers.specs.Pairs.{pair}
-use Rattle.two_parallel_answers.proofs.write_answer.Statement.{statement}
-use Rattle.two_parallel_answers.proofs.write_answer.Tie as tie
+use Rattle.family6_answers.specs.FixedAnswer.{answer-at}
+use Rattle.family6_answers.specs.Pairs.{pair}
+use Rattle.family6_answers.proofs.write_answer.Statement.{statement}
+use Rattle.family6_answers.proofs.write_answer.Tie as tie
 
 met : (g : Fixed) (tolerance q1 : Float) (i : ℕ) {q : Answer} {a₀ a : List Float} {f₀ f : List ℕ} {r : ℕ}
     → q ≡ answer-at g tolerance (pair q1 i)

@@ -10,9 +10,9 @@ use Rattle.kinematics.specs.declared.Kinematics.{Kinematics}
 use Rattle.search_definition.specs.Found.{SearchPair}
 use Rattle.search_error.specs.Fixed.{fixed, given-q1}
 use Rattle.search_error.proofs.SameError.{t64-same}
-use Rattle.two_parallel_answers.specs.FixedAnswer.{t23, q2, q5, answer, answer-at}
-use Rattle.two_parallel.specs.TwoParallel as Plain
-use Rattle.two_parallel.specs.TwoParallel.{answer-of}
+use Rattle.family6_answers.specs.FixedAnswer.{t23, q2, q5, answer, answer-at}
+use Rattle.family6.specs.TwoParallel as Plain
+use Rattle.family6.specs.TwoParallel.{answer-of}
 
 module _ (r-06 : Matrix) (p-0t : Vector3) (kin : Kinematics) (tolerance : Float) where
   answer-same : (q1 : Float) (a : Angles.Pair) → answer (fixed kin r-06 p-0t) tolerance q1 (given-q1 (fixed kin r-06 p-0t) q1) a ≡ Plain.answer r-06 p-0t kin tolerance q1 a

@@ -13,11 +13,11 @@ use Rattle.answers.proofs.Laws.{by-name}
 use Rattle.answers.proofs.Steps.{Steps, start-long, again, small-sum, end, angles-kept, flags-kept}
 use Rattle.search_definition.specs.Found.{SearchPair}
 use Rattle.search_error.specs.declared.Fixed.{Fixed}
-use Rattle.two_parallel_answers.specs.FixedAnswer.{answer-at}
-use Rattle.two_parallel_answers.specs.Pairs.{pair, first-pairs, Answered, AllAnswered}
-use Rattle.two_parallel_answers.proofs.Zipped.{first-long, first-at}
-use Rattle.two_parallel_answers.proofs.write_answers.Statement.{statement}
-use Rattle.two_parallel_answers.proofs.write_answers.Tie as tie
+use Rattle.family6_answers.specs.FixedAnswer.{answer-at}
+use Rattle.family6_answers.specs.Pairs.{pair, first-pairs, Answered, AllAnswered}
+use Rattle.family6_answers.proofs.Zipped.{first-long, first-at}
+use Rattle.family6_answers.proofs.write_answers.Statement.{statement}
+use Rattle.family6_answers.proofs.write_answers.Tie as tie
 
 abbrev none : SearchPair
 none = pair nan 0

@@ -14,8 +14,8 @@ ghost use lib.ListN.{length};
 ghost use Rattle.float.specs.Num.{_⊖_};
 ghost use Rattle.float.specs.Turn.{wrap-to-pi};
 ghost use Rattle.answers.specs.Written.{Wrote};
-ghost use Rattle.two_parallel_answers.specs.FixedAnswer.{t23, q2, q5, answer, answer-at};
-ghost use Rattle.two_parallel_answers.specs.Pairs.{pair, first-pairs, Answered, AllAnswered};
+ghost use Rattle.family6_answers.specs.FixedAnswer.{t23, q2, q5, answer, answer-at};
+ghost use Rattle.family6_answers.specs.Pairs.{pair, first-pairs, Answered, AllAnswered};
 
 fn t23(fixed: Fixed, tolerance: f64, r_16: Matrix3, r_34: Matrix3) -> Solved1
     ensures { λ r. ⌜ r ≡ t23 fixed tolerance «r_16» «r_34» ⌝ }

@@ -6,9 +6,9 @@ use Rattle.vector.specs.declared.Vector3.{Vector3}
 use Rattle.subproblems.specs.Subproblem1.{subproblem1-within}
 use Rattle.subproblems.specs.declared.Solved1.{Solved1}
 use Rattle.search_error.specs.declared.Fixed.{Fixed}
-use Rattle.two_parallel_answers.specs.FixedAnswer.{t23}
-use Rattle.two_parallel_answers.proofs.t23.Statement.{statement}
-use Rattle.two_parallel_answers.proofs.t23.Tie as tie
+use Rattle.family6_answers.specs.FixedAnswer.{t23}
+use Rattle.family6_answers.proofs.t23.Statement.{statement}
+use Rattle.family6_answers.proofs.t23.Tie as tie
 
 met : (g : Fixed) (tolerance : Float) (r-16 r-34 : Matrix) {p1 p2 : Vector3} {s : Solved1}
     → p1 ≡ apply r-34 (g .kin .h5)

@@ -11,8 +11,8 @@ use Rattle.vector.specs.declared.Vector3.{Vector3}
 use Rattle.kinematics.specs.declared.Kinematics.{Kinematics}
 use Rattle.search_definition.specs.Found.{pairs, pair-of}
 use Rattle.search.specs.Demand.{two-parallel-search}
-use Rattle.two_parallel.specs.TwoParallel.{answer-of, two-parallel}
-use Rattle.two_parallel.proofs.Held.{few}
+use Rattle.family6.specs.TwoParallel.{answer-of, two-parallel}
+use Rattle.family6.proofs.Held.{few}
 
 pub at-most-44 : (r-06 : Matrix) (p-0t : Vector3) (kin : Kinematics) (tolerance : Float) (n : ℕ) → length (two-parallel r-06 p-0t kin tolerance n) ≤ 44 * n
 unfolding two-parallel pairs

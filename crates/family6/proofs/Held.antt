@@ -29,7 +29,7 @@ use Rattle.search.specs.Searched.{Searched, search-within}
 use Rattle.search.specs.Demand.{two-parallel-search}
 use Rattle.search_pairs.specs.declared.SearchCounts.{SearchCounts}
 use Rattle.search.proofs.Listed.{same-error}
-use Rattle.two_parallel_answers.specs.Pairs.{pair, zipped, first-pairs, Answered, AllAnswered}
+use Rattle.family6_answers.specs.Pairs.{pair, zipped, first-pairs, Answered, AllAnswered}
 
 -- ---- lists of pairs
 zipped-map : (l : List Entry) → zipped (map angle-of l) (map component-of l) ≡ map pair-of l

@@ -8,9 +8,9 @@ use Rattle.subproblems.specs.Subproblem1.{subproblem1-within}
 use Rattle.subproblems.specs.declared.Solved1.{Solved1}
 use Rattle.search_error.specs.declared.Fixed.{Fixed}
 use Rattle.search_error.specs.declared.GivenQ1.{GivenQ1}
-use Rattle.two_parallel_answers.specs.FixedAnswer.{q2}
-use Rattle.two_parallel_answers.proofs.q2.Statement.{statement}
-use Rattle.two_parallel_answers.proofs.q2.Tie as tie
+use Rattle.family6_answers.specs.FixedAnswer.{q2}
+use Rattle.family6_answers.proofs.q2.Statement.{statement}
+use Rattle.family6_answers.proofs.q2.Tie as tie
 
 met : (g : Fixed) (tolerance : Float) (t : GivenQ1) (r-16 r-34 : Matrix) (theta : Float)
     {r-13 r-14 : Matrix}
