@@ -17,14 +17,16 @@ pub struct Units {
     pub h5: Vector3,
 }
 
-pub fn units(kin: Kinematics) -> Units
-    ensures { λ r. ⌜ r ≡ units kin ⌝ }
-{
-    Units {
-        h1: linear::normalize(kin.h1),
-        h2: linear::normalize(kin.h2),
-        h3: linear::normalize(kin.h3),
-        h5: linear::normalize(kin.h5),
+impl Units {
+    pub fn new(kin: Kinematics) -> Units
+        ensures { λ r. ⌜ r ≡ units kin ⌝ }
+    {
+        Units {
+            h1: linear::normalize(kin.h1),
+            h2: linear::normalize(kin.h2),
+            h3: linear::normalize(kin.h3),
+            h5: linear::normalize(kin.h5),
+        }
     }
 }
 

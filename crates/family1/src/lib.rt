@@ -4,7 +4,6 @@ use families_shared::ahead;
 use families_shared::any3;
 use families_shared::back;
 use families_shared::product4;
-use families_shared::units;
 use families_wrist::wrist;
 use kinematics::Kinematics;
 use linear::Matrix3;
@@ -148,7 +147,7 @@ pub fn spherical_two_parallel(
 ) -> usize
     ensures { λ r. ⌜ Wrote (spherical-two-parallel «r_0t» «p_0t» kin tolerance) (now (angles .entry)) (now (flags .entry)) (now (angles .exit)) (now (flags .exit)) r ⌝ }
 {
-    let unit = units(kin);
+    let unit = Units::new(kin);
     let origin = from_wrist(r_0t, p_0t, kin);
     let t = t1(r_0t, p_0t, kin);
     let set = t.set;

@@ -4,7 +4,6 @@ use families_shared::ahead;
 use families_shared::back;
 use families_shared::either;
 use families_shared::product4;
-use families_shared::units;
 use families_wrist::wrist;
 use kinematics::Kinematics;
 use linear::Matrix3;
@@ -119,7 +118,7 @@ pub fn spherical_two_intersecting(
 ) -> usize
     ensures { λ r. ⌜ Wrote (spherical-two-intersecting «r_0t» «p_0t» kin tolerance) (now (angles .entry)) (now (flags .entry)) (now (angles .exit)) (now (flags .exit)) r ⌝ }
 {
-    let unit = units(kin);
+    let unit = Units::new(kin);
     let p = p_16(r_0t, p_0t, kin);
     let t = t3(kin, p);
     let set = t.set;

@@ -3,7 +3,6 @@ use families_shared::Units;
 use families_shared::back;
 use families_shared::p_16;
 use families_shared::product4;
-use families_shared::units;
 use families_wrist::wrist;
 use kinematics::Kinematics;
 use linear::Matrix3;
@@ -61,7 +60,7 @@ pub fn spherical(
 ) -> usize
     ensures { λ r. ⌜ Wrote (spherical «r_06» «p_0t» kin tolerance) (now (angles .entry)) (now (flags .entry)) (now (angles .exit)) (now (flags .exit)) r ⌝ }
 {
-    let unit = units(kin);
+    let unit = Units::new(kin);
     let p = p_16(r_06, p_0t, kin);
     let set = t123(kin, p);
     let n = set.size();

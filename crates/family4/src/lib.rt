@@ -6,7 +6,6 @@ use families_shared::ahead;
 use families_shared::any4;
 use families_shared::p_16;
 use families_shared::product4;
-use families_shared::units;
 use kinematics::Kinematics;
 use linear::Matrix3;
 use linear::Vector3;
@@ -162,7 +161,7 @@ pub fn three_parallel_two_intersecting(
 ) -> usize
     ensures { λ r. ⌜ Wrote (three-parallel-two-intersecting «r_06» «p_0t» kin tolerance) (now (angles .entry)) (now (flags .entry)) (now (angles .exit)) (now (flags .exit)) r ⌝ }
 {
-    let unit = units(kin);
+    let unit = Units::new(kin);
     let p = p_16(r_06, p_0t, kin);
     let t = theta1(kin, p);
     let set = t.set;

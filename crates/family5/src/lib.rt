@@ -5,7 +5,6 @@ use families_shared::Units;
 use families_shared::ahead;
 use families_shared::either;
 use families_shared::p_16;
-use families_shared::units;
 use kinematics::Kinematics;
 use linear::Matrix3;
 use linear::Vector3;
@@ -108,7 +107,7 @@ pub fn three_parallel(
 ) -> usize
     ensures { λ r. ⌜ Wrote (three-parallel «r_06» «p_0t» kin tolerance) (now (angles .entry)) (now (flags .entry)) (now (angles .exit)) (now (flags .exit)) r ⌝ }
 {
-    let unit = units(kin);
+    let unit = Units::new(kin);
     let p = p_16(r_06, p_0t, kin);
     let set = theta15(r_06, kin, p);
     let n = set.size();

@@ -46,7 +46,7 @@ at-q1-requires : tie.Need-at-q1-requires Inv-loop μ-loop
 at-q1-requires c κs =
     let sized = c .before .before .before .before .before .before .before in
     let at-origin = sized .before .before in
-    (at-origin .before .units .ensures, at-origin .from-wrist .ensures)
+    (at-origin .before .new .ensures, at-origin .from-wrist .ensures)
 
 add-k : tie.Need-add-k Inv-loop μ-loop
 add-k c =

@@ -46,7 +46,7 @@ loop-holds c = start _ _ _ _ _ _ (search) (search few-of)
 
 at-q3-requires : tie.Need-at-q3-requires Inv-loop μ-loop
 at-q3-requires c κs =
-    c .before .before .before .before .before .before .before .before .before .before .units .ensures
+    c .before .before .before .before .before .before .before .before .before .before .new .ensures
 
 add-k : tie.Need-add-k Inv-loop μ-loop
 add-k c =

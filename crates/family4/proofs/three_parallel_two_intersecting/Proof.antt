@@ -47,7 +47,7 @@ loop-holds c = start _ _ _ _ _ _ (search) (search few-of)
 
 at-q1-requires : tie.Need-at-q1-requires Inv-loop μ-loop
 at-q1-requires c κs =
-    c .before .before .before .before .before .before .before .before .before .before .units .ensures
+    c .before .before .before .before .before .before .before .before .before .before .new .ensures
 
 add-k : tie.Need-add-k Inv-loop μ-loop
 add-k c =

@@ -46,7 +46,7 @@ loop-holds c = start _ _ _ _ _ _ (search) (search few-pairs4-of)
 
 at-q15-requires : tie.Need-at-q15-requires Inv-loop μ-loop
 at-q15-requires c κs =
-    c .before .before .before .before .before .before .before .before .before .before .units .ensures
+    c .before .before .before .before .before .before .before .before .before .before .new .ensures
 
 add-k : tie.Need-add-k Inv-loop μ-loop
 add-k c =
