@@ -130,8 +130,8 @@ fn in_edge(fixed: Fixed, i: u8, x: f64, y: f64, out: f64, book: &[u8; 1830400], 
     if x < lo {
         let mut us = [0.0; 9];
         let mut vs = [0.0; 9];
-        search_edge::edge::turn_round(&xs, m, &mut us);
-        search_edge::edge::turn_round(&ys, m, &mut vs);
+        search_edge::edge::reverse_row(&xs, m, &mut us);
+        search_edge::edge::reverse_row(&ys, m, &mut vs);
         return in_row(fixed, i, &us, &vs, m, book, j);
     }
     in_row(fixed, i, &xs, &ys, m, book, j)
