@@ -21,10 +21,4 @@ returns c =
     at-slot 2 nought _ (get-all (start .args .self)) (start .args .i) laid (start .pre)
 
 pub at-spec : {M : Type 1} → statement M
-at-spec =
-    tie.close
-    (tie.spec
-    (λ _ _. tt)
-    mul-result
-    array-read-result
-    returns)
+at-spec = tie.close (tie.spec (λ _ _. tt) mul-result array-read-result returns)
