@@ -1,6 +1,6 @@
 -- Each call gives an equation.
 use mathlib.Core.Path.{_≡_}
-use lib.Ieee.{Float}
+use lib.Ieee.{Float, ofInt, ofBits}
 use Rattle.float.specs.Num.{_⊖_, _⊗_}
 use Rattle.linear.specs.Vector.{_-ᵛ_}
 use Rattle.vector.specs.declared.Vector3.{Vector3}
@@ -31,6 +31,7 @@ unfolding eqn-real
 met c1 c3 e1 e2 e3 e4 e5 = cc
 
 returns : tie.Need-returns
+unfolding ofInt ofBits
 returns c = search met
 
 pub eqn-real-spec : {M : Type 1} → statement M
