@@ -14,48 +14,55 @@
  *           p0 leads from the base to joint 1, p1 from joint 1 to joint 2, p6 from joint 6 to the tool.
  *           EACH AXIS HAS LENGTH 1. That is not tested: a rotation is taken about the axis at length 1,
  *           but the equations for the angles take the axis as it is. With an axis of another length
- *           the refusal is 0 and the answers do not reach the pose, in every family for some axis
- *           without a flag (h2 = (0, 2, 0) in examples/c: 8 answers, flag 0, up to 0.33 m off).
+ *           the refusal is 0 and no answer without a flag makes the pose, and each family has axes where
+ *           such answers come (h2 = (0, 2, 0) in examples/c: 8 answers, flag 0, 0.23 to 0.33 m off).
+ *           Only h1 in family 6, and an axis that is not read (below), may have any length.
  *   pose    12 numbers: the rotation by rows (nine), then the place (three). The rows have length 1,
- *           are at right angles and right-handed. That is not tested: what is no rotation gives
- *           answers that do not make the pose, and a mirror image gives them without a flag.
+ *           are at right angles and right-handed. That is not tested: where it is off by more than
+ *           1e-6 nearly every answer has flag 1, but a mirror image gives answers without a flag that
+ *           miss the pose. Give the entries with seven decimals or more.
  *   answer  six angles, joint 1 first, in the angle list, and one byte in the flag list.
  *           Flag 1: some step had no exact solution, and its nearest one was taken (least squares).
  *             As a rule the tool misses the pose. But where an elbow is exactly straight, rounding
  *             decides, and a flagged answer may be exact.
- *           Flag 0: no step found its lengths in the way. THAT DOES NOT MEAN THAT THE POSE IS REACHED:
- *             where axes 4 and 6 are parallel (q5 = 0 on many arms), q4 and q6 come from rounding
- *             errors, and an answer may make the place and be turned by any angle; in families 1 to 3
- *             about 3 in 10 poses that are exactly there have such answers.
- *           An angle may be NaN, in an answer with flag 0 too.
+ *           Flag 0: each step had its solution, as far as lengths tell, within 1e-6. THAT DOES NOT MEAN
+ *             THAT THE POSE IS REACHED: where axes 4 and 6 are parallel (q5 = 0 on many arms), q4 and
+ *             q6 come from rounding errors, and an answer may make the place and be turned by any
+ *             angle; in families 1 to 3 a quarter to a third of the poses exactly there have such
+ *             answers.
+ *           An angle may be NaN, in an answer with flag 0 too: in families 2, 4 and 5 where an elbow is
+ *             exactly straight or folded, and in family 5 for the arms named below.
  *           So before you move: no angle is NaN, and saihkeb_forward_kinematics at the angles gives the
  *           pose that was asked for, within the tolerance of your machine.
  *   A list, empty or not, may lack answers that the arm has, with refusal 0.
  *   README.md, "What to know before you rely on a list", and docs/DIFFERENCES.md have the figures.
  *
  * FAMILIES, and what an arm of each has
- *   1  h3 = h2 or h3 = -h2; p4 = p5 = 0                              at most 8 answers
- *   2  p1 = p4 = p5 = 0                                              at most 8
- *   3  p4 = p5 = 0; axes 1 and 2, and 2 and 3, neither parallel nor meeting
- *                                                                    at most 8
- *   4  h2 = h3 = h4; p5 = 0                                          at most 8
- *   5  h2 = h3 = h4; if axes 5 and 6 meet, h2, h5 and h6 not in one plane
- *                                                                    at most 8
- *   6  h2 = h3; if axes 4 and 5 meet, h2, h4 and h5 not in one plane; a search with n samples
- *                                                                    at most 44 * n
- *   None of it is tested. Where it fails the refusal is 0 as well, and:
+ *   1  h3 = h2 or h3 = -h2; p4 = p5 = 0                                  at most 8 answers
+ *   2  p1 = p4 = p5 = 0                                                  at most 8
+ *   3  p4 = p5 = 0; axes 1 and 2 do not meet, nor axes 2 and 3           at most 8
+ *   4  h2 = h3 = h4; p5 = 0                                              at most 8
+ *   5  h2 = h3 = h4; h2, h5, h6 not in one plane if axes 5 and 6 meet    at most 8
+ *   6  h2 = h3; h2, h4, h5 not in one plane if axes 4 and 5 meet;        at most 44 * n
+ *      a search with n samples
+ *   Not parallel are, in families 1 to 4, axes 1 and 2, 4 and 5, 5 and 6, in family 3 also 2 and 3; in
+ *   family 5 axes 1 and 2, 4 and 5; in family 6 axes 3 and 4.
+ *   None of it is tested. Where it fails the refusal is 0 as well, and (tools/claims.py shows each):
  *   - Families 1 to 3 never read p4 and p5, and family 2 never reads p1: they solve the arm that has
- *     zeros there. Answers without a flag miss the place by what was left out.
- *   - Families 4 and 5 never read h3 and h4, and family 6 never reads h3: they take h2. h3 = -h2 is
- *     an arm that turns joint 3 the other way: answers without a flag that miss by the length of the
- *     arm and by up to 180 degrees. Turn the sign of the axis, and of the joint's angle.
- *   - Family 1 with h3 that is not parallel to h2, and family 4 with p5 not zero: every answer has
- *     flag 1.
- *   - Family 3 with axes 2 and 3 parallel: no answer, or answers with flag 1. With axes 1 and 2, or 2
- *     and 3, that meet: a fifth to a half of the poses lack answers.
- *   - Family 5 where axes 5 and 6 meet and h2, h5, h6 lie in one plane: NaN, or an empty list. Family
- *     6 where axes 4 and 5 meet and h2, h4, h5 lie in one plane: always an empty list. The same arm
- *     written with the zero of joint 5 (family 6: joint 4) moved is solved: README.md says how.
+ *     zero there, and each answer without a flag misses the place by the length of what was left out.
+ *   - Families 4 and 5 never read h3 and h4, and family 6 never reads h3: they take h2. Where h3 = -h2,
+ *     every answer without a flag misses, by up to several lengths of a link and 180 degrees. Write
+ *     such an arm with h3 = h2, and turn the sign of q3.
+ *   - Family 1 with h3 not parallel to h2, and family 4 with p5 not zero: every answer has flag 1.
+ *   - Axes parallel that must not be: the angles that made a pose are never in its list, which often is
+ *     empty; family 2 with axes 1 and 2 parallel gives answers without a flag that miss the place.
+ *   - Family 3 with axes 1 and 2, or 2 and 3, that meet: a fifth to a half of the poses lack answers.
+ *   - Family 5 where axes 5 and 6 meet and h2, h5, h6 lie in one plane: every answer is NaN, or the list
+ *     is empty. Family 6 where axes 4 and 5 meet and h2, h4, h5 lie in one plane: the list is empty
+ *     for every pose. Where h6 (h5) is turned out of that plane by just 90 degrees, some poses lack
+ *     answers, and in family 6 all do if axes 5 and 6 meet as well. The same arm, written with the
+ *     zero of joint 5 (family 6: joint 4) moved, is solved: README.md, "What to know before you rely
+ *     on a list", says how.
  *
  * LISTS
  *   A list is a pointer and the number of its elements (not bytes). It may have any length, and

@@ -95,8 +95,10 @@ def rotations(t, name):
     bends = {
         "rows of length 1.001": lambda r: [[1.001 * x for x in row] for row in r],
         "a mirror image": lambda r: [[row[0], row[1], -row[2]] for row in r],
-        "entries with six decimals": lambda r: [[round(x, 6) for x in row] for row in r],
+        "seven decimals": lambda r: [[round(x, 7) for x in row] for row in r],
+        "five decimals": lambda r: [[round(x, 5) for x in row] for row in r],
     }
+    plain = {family: t.worth(family).unflagged for family in FAMILIES}
     for kind, bend in bends.items():
         for family in FAMILIES:
             cases = [(arm, trial.pose_of(arm, angles), angles) for arm, angles in t.arms(family)]
@@ -104,9 +106,10 @@ def rotations(t, name):
             w = trial.Worth()
             for (arm, pose), (_, _, own), result in zip(bent, cases, trial.lists(t.words, family, bent)):
                 w.count(arm, pose, own, result)
-            text = f"family {family}, {kind}: {w.unflagged} unflagged answers, {w.flagged} flagged,"
-            holds = {"r": not w.unflagged, "a": 0 < w.missing == w.unflagged, "e": w.flagged > 0}[kind[0]]
-            t.say(name, f"{text} {w.missing} unflagged that miss", holds)
+            text = f"family {family}, {kind}: {w.unflagged} unflagged answers of {w.unflagged + w.flagged},"
+            holds = {"r": not w.unflagged, "a": 0 < w.missing == w.unflagged,
+                     "s": w.unflagged == plain[family], "f": w.unflagged < 0.2 * plain[family]}[kind[0]]
+            t.say(name, f"{text} {w.missing} unflagged that miss; of the true rotation {plain[family]} unflagged", holds)
 
 
 def unread(t, name):
@@ -171,28 +174,37 @@ def parallel(t, name):
             t.say(name, f"{text} {w.empty} empty, {w.unflagged} unflagged answers, {w.missing} of them miss", not w.own)
 
 
-def plane(t, name):
-    """Families 5 and 6: two axes that meet, at 90 and at 60 degrees, in one plane with h2 or turned out of it."""
-    for family, i in ((5, 5), (6, 4)):
-        for slant in (90, 60):
-            for out in (0, 37):
-                def change(arm, rng):
-                    made = meeting_axes.random_arm(rng, family, True)
-                    h2, hinge = made["h2"], made[f"h{i}"]
-                    c, s = math.cos(math.radians(slant)), math.sin(math.radians(slant))
-                    second = [s * x + (c * y if slant != 90 else 0.0) for x, y in zip(h2, hinge)]
-                    if out:
-                        second = sheet.turned(sheet.about(hinge, math.radians(out)), second)
-                    made["h6"] = meeting_axes.random_axis(rng)
-                    made[f"h{i + 1}"] = second
-                    meeting_axes.let_meet(rng, made, i)
-                    return made
+def hinged(family, i, slant, out, both=False):
+    """Axes i and i + 1 meet at an angle, in the plane of axes i and 2 or turned out of it; or 5 and 6 as well."""
 
-                w = t.worth(family, change)
-                text = f"family {family}, axes {i} and {i + 1} meet at {slant} degrees, turned {out} out of the plane:"
-                text += f" own angles in {w.own} of {w.poses} lists, {w.empty} empty, {w.nan} NaN answers"
-                bad = not w.own and (w.empty == w.poses if family == 6 else w.nan == w.unflagged + w.flagged)
-                t.say(name, text, bad if not out else w.own >= 0.9 * w.poses)
+    def change(arm, rng):
+        made = meeting_axes.random_arm(rng, family, True)
+        h2, hinge = made["h2"], made[f"h{i}"]
+        c, s = math.cos(math.radians(slant)), math.sin(math.radians(slant))
+        second = [s * x + (c * y if slant != 90 else 0.0) for x, y in zip(h2, hinge)]
+        made["h6"] = meeting_axes.random_axis(rng)
+        made[f"h{i + 1}"] = sheet.turned(sheet.about(hinge, math.radians(out)), second) if out else second
+        for first in (i, 5) if both else (i,):
+            meeting_axes.let_meet(rng, made, first)
+        return made
+
+    return change
+
+
+def plane(t, name):
+    for family, i, slant, out, both, least, most in (
+        (5, 5, 90, 0, False, 0, 0), (5, 5, 60, 0, False, 0, 0), (6, 4, 90, 0, False, 0, 0), (6, 4, 60, 0, False, 0, 0),
+        (5, 5, 90, 37, False, 0.9, 1), (5, 5, 60, 37, False, 0.9, 1), (6, 4, 90, 37, False, 0.9, 1),
+        (6, 4, 60, 37, False, 0.9, 1), (6, 4, 60, 37, True, 0.9, 1),
+        (5, 5, 90, 90, False, 0.99, 1), (5, 5, 60, 90, False, 0.6, 0.95), (6, 4, 90, 90, False, 0.9, 1),
+        (6, 4, 60, 90, False, 0.6, 0.95), (6, 4, 60, 90, True, 0, 0),
+    ):
+        w = t.worth(family, hinged(family, i, slant, out, both))
+        meets = f"{i}, {i + 1} and 5, 6 meet, {i} and {i + 1}" if both else f"{i} and {i + 1} meet"
+        text = f"family {family}, axes {meets} at {slant} degrees, turned {out} out of the plane:"
+        text += f" own angles in {w.own} of {w.poses} lists, {w.empty} empty, {w.nan} of {w.unflagged + w.flagged} NaN"
+        alone = w.empty == w.poses if family == 6 else w.nan == w.unflagged + w.flagged
+        t.say(name, text, least * w.poses <= w.own <= most * w.poses and (alone or out))
 
 
 def turned_wrist(t, name):

@@ -1,9 +1,10 @@
 #!/usr/bin/env python3
 """What a list is worth at poses that people teach: wrist straight, elbow straight, round angles.
 
-    tools/special_poses.py [COUNT] [SEED]
+    tools/special_poses.py [COUNT] [SEED] [ARM..]
 
-COUNT (1000) poses for each line; family 6 with n = 200. The arms are those of trial.py. q5 of 0 or 180
+COUNT (1000) poses for each line; family 6 with n = 200. The arms are those of trial.py (without ARM twelve
+of them, two of each family). q5 of 0 or 180
 degrees makes axes 4 and 6 parallel on all of them. 'straight' and 'folded' hold q3 where the two links
 about axis 3 are in line; family 3 has no such angle. Needs target/bin/ik, or IK_PROGRAM.
 
@@ -56,6 +57,7 @@ def choices(family, arm):
     if family in (1, 2, 4, 5, 6):
         stretched = straight(arm)
         yield "straight", held(3, stretched)
+        yield "0.01 degrees from it", held(3, stretched + math.radians(0.01))
         yield "folded", held(3, math.remainder(stretched + math.pi, math.tau))
     yield "multiples of 15 degrees", multiples(15)
     yield "multiples of 90 degrees", multiples(90)
@@ -64,14 +66,14 @@ def choices(family, arm):
 def main(arguments):
     count, seed = (int(arguments[0]) if arguments else 1000), (int(arguments[1]) if len(arguments) > 1 else 1)
     words = blocks.command()
-    print(f"{'arm':<14} {'angles':<24} {'unflagged':>9} {'lists':>6} {'miss':>6} {'place':>8} {'turn':>8}"
+    print(f"{'arm':<16} {'angles':<23} {'unflagged':>9} {'lists':>6} {'miss':>6} {'place':>8} {'turn':>8}"
           f" {'NaN':>5} {'none':>5} {'flagged':>7}")
-    for name in NAMES:
+    for name in arguments[2:] or NAMES:
         family, arm = trial.family_of(name), trial.named(name)
         for kind, choose in choices(family, arm):
             rng = random.Random(seed)
             w = trial.worth(words, family, [(arm, choose(rng)) for _ in range(count)])
-            print(f"{family} {name:<14} {kind:<23} {w.unflagged:>8} {w.lists_that_miss:>6} {w.missing:>6}"
+            print(f"{family} {name:<14} {kind:<23} {w.unflagged:>9} {w.lists_that_miss:>6} {w.missing:>6}"
                   f" {w.place:>8.1e} {w.turn:>8.3g} {w.nan:>5} {w.none:>5} {w.flagged_exact:>7}", flush=True)
     return 0
 
