@@ -32,6 +32,12 @@ the solver gets the nearest f64 of what is written. Lengths have any one unit.
                      or
     from angles A1 .. A6   in degrees: the pose that these joint angles give the arm. A help for a
                        first try; computed here, not by the proved program
+
+An answer is held against its pose here, and marked: 'MISSES the pose' where its own place is off by more
+than a millionth of the arm's size (the sum of the offsets' lengths) or its rotation by more than 0.0001
+degrees, with the solver's flag ('least squares') or without one ('no flag'); 'NO ANSWER' where an angle is
+not a number. Notes on an arm that is not of its family, or that the family solves badly, go to standard
+error.
 """
 
 import argparse
