@@ -7,7 +7,7 @@ ghost use mathlib.Core.Path.{_≡_};
 ghost use lib.Seq.{sets};
 ghost use Rattle.answers.specs.Written.{room, written, flagged};
 ghost use Rattle.solve.specs.Solve.{answers, solve};
-ghost use Rattle.lines.specs.Lines.{solve-block, block-answers};
+ghost use Rattle.solve_block.specs.SolveBlock.{solve-block, block-answers};
 ghost use Rattle.forward.specs.Forward.{forward-refusal, forward-pose};
 ghost use Rattle.saihkeb.specs.Library.{counts-of};
 
@@ -54,7 +54,7 @@ pub extern "C" fn saihkeb_solve_block_lent(
     ensures flags { λ _. ⌜ now (flags .exit) ≡ flagged (block-answers (now (block .entry))) (now (angles .entry)) (now (flags .entry)) ⌝ }
     ensures counts { λ _. ⌜ now (counts .exit) ≡ sets (now (counts .entry)) 0 (counts-of (solve-block (now (block .entry)) (room (now (angles .entry)) (now (flags .entry))))) ⌝ }
 {
-    report(lines::solve_block(block, angles, flags), counts)
+    report(solve_block::solve_block(block, angles, flags), counts)
 }
 
 // The pose of six angles. A list of another length than 39, 6 or 12 is refused, and the pose's list
