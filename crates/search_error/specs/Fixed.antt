@@ -6,8 +6,8 @@ use lib.ListN.{getD, replicate}
 use lib.Seq.{sets}
 use Rattle.float.specs.Num.{_⊖_, _⊘_, nought, infinity}
 use Rattle.linear.specs.Vector.{dot, norm, normalize, _-ᵛ_, negᵛ}
-use Rattle.linear.specs.Matrix.{Matrix, row, three, product, apply, row-apply, transpose, rot-unit}
-use Rattle.vector.specs.declared.Vector3.{Vector3}
+use Rattle.linear.specs.Matrix.{Matrix, row, array3, product, apply, row-apply, transpose, rot-unit}
+use Rattle.linear.specs.declared.vector.Vector3.{Vector3}
 use Rattle.pairset.specs.PairSet4.{get-all}
 use Rattle.pairset.specs.declared.Pair.{Pair}
 use Rattle.pairset.specs.declared.PairSet4.{PairSet4}
@@ -38,7 +38,7 @@ fixed kin r-06 p-0t =
 
 -- r_06
 abbrev pub rotation : Fixed → Matrix
-rotation g = three (g .row1) (g .row2) (g .row3)
+rotation g = array3 (g .row1) (g .row2) (g .row3)
 
 -- what q1 gives to all answers: r_01^T r_06 by rows, the first of subproblem 6's vectors h, and r_01^T p_16 - p1
 unfoldable pub given-q1 : Fixed → Float → GivenQ1
@@ -55,7 +55,7 @@ given-q1 g q1 =
 
 -- r_01^T r_06
 abbrev pub rotation-given-q1 : GivenQ1 → Matrix
-rotation-given-q1 t = three (t .row1) (t .row2) (t .row3)
+rotation-given-q1 t = array3 (t .row1) (t .row2) (t .row3)
 
 unfoldable pub t64 : Fixed → GivenQ1 → PairSet4
 t64 g t =
