@@ -3,7 +3,7 @@ use mathlib.Core.Path.{_≡_}
 use lib.Ieee.{Float}
 use Rattle.float.specs.Num.{_⊖_, _⊘_}
 use Rattle.linear.specs.Matrix.{Matrix, product, transpose, rot-unit}
-use Rattle.pairset.specs.declared.Pair.{Pair}
+use Rattle.solutionset.specs.declared.pairs.Pair.{Pair}
 use Rattle.search_error.specs.Fixed.{rotation-given-q1, gap, answer-error}
 use Rattle.search_error.specs.declared.Fixed.{Fixed}
 use Rattle.search_error.specs.declared.GivenQ1.{GivenQ1}
