@@ -6,7 +6,7 @@ use mathlib.Core.List.{List, [], _∷_}
 use borrow.Author.Needs.{needs}
 use lib.Ieee.{Float}
 use Rattle.float.specs.Num.{_⊖_}
-use Rattle.float.specs.Turn.{wrap-to-pi}
+use Rattle.float.specs.Wrap.{wrap-to-pi}
 use Rattle.linear.specs.Matrix.{Matrix, apply, rot}
 use Rattle.linear.specs.Vector.{_+ᵛ_}
 use Rattle.vector.specs.declared.Vector3.{Vector3}
