@@ -9,7 +9,7 @@ use lib.ListN.{length}
 use Rattle.float.specs.Num.{as-f64, int-as-f64, nought, two, pi, frac-pi-2}
 use Rattle.float.specs.Root.{sqrt}
 use Rattle.float.specs.Wrap.{wrap-to-pi, inverse-wrap-to-pi}
-use Rattle.vector.specs.declared.Vector3.{Vector3}
+use Rattle.linear.specs.declared.vector.Vector3.{Vector3}
 use Rattle.complex.specs.declared.Complex.{Complex}
 use Rattle.convolution.specs.Convolution.{vec-self-convolve-2, vec-self-convolve-3, vec-convolve-3}
 use Rattle.convolution.specs.Triangular.{solve-lower-triangular-system-2x2}

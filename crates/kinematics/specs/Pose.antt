@@ -5,7 +5,7 @@ use lib.Ieee.{Float, nan}
 use lib.ListN.{getD}
 use Rattle.linear.specs.Matrix.{Matrix, row, part, array3, product, apply, identity, rot}
 use Rattle.linear.specs.Vector.{_+ᵛ_}
-use Rattle.vector.specs.declared.Vector3.{Vector3}
+use Rattle.linear.specs.declared.vector.Vector3.{Vector3}
 use Rattle.kinematics.specs.Kinematics.{vector-at}
 use Rattle.kinematics.specs.declared.Kinematics.{Kinematics}
 use Rattle.kinematics.specs.declared.Pose.{Pose}

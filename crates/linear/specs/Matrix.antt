@@ -6,7 +6,7 @@ use lib.ListN.{getD}
 use Rattle.float.specs.Num.{_⊕_, _⊖_, _⊗_, nought, one}
 use Rattle.float.specs.Sine.{sin, cos}
 use Rattle.linear.specs.Vector.{normalize}
-use Rattle.vector.specs.declared.Vector3.{Vector3}
+use Rattle.linear.specs.declared.vector.Vector3.{Vector3}
 
 infixl 6 _+ᵐ_
 abbrev pub Matrix : Type 0

@@ -4,7 +4,7 @@ use mathlib.Core.List.{List}
 use lib.Ieee.{Float}
 use borrow.Author.Needs.{needs}
 use Rattle.linear.specs.Matrix.{Matrix, part, array3, row-product, row-apply}
-use Rattle.vector.specs.declared.Vector3.{Vector3}
+use Rattle.linear.specs.declared.vector.Vector3.{Vector3}
 use Rattle.linear.proofs.matrix.row_apply.Statement.{statement}
 use Rattle.linear.proofs.matrix.row_apply.Tie as tie
 
