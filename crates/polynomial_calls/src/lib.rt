@@ -1,4 +1,4 @@
-// The functions of polynomial, quartic, qr and ellipse by number, over plain numbers: what their test
+// The functions of polynomial, qr and ellipse by number, over plain numbers: what their test
 // program and the benchmark call. Numbers, arguments and results are those of the oracle's test
 // records (`oracle layout`): a vector stands by its parts, a matrix by rows, a complex number as re
 // and im, a set or a list of roots as its count and all its slots. The results go to the first words
@@ -106,7 +106,7 @@ fn cone_polynomials(args: &[f64; 40], out: &mut [u64; 23]) {
 }
 
 fn solve_quartic_roots(args: &[f64; 40], out: &mut [u64; 23]) {
-    let found = quartic::solve_quartic_roots(Quartic {
+    let found = polynomial::solve_quartic_roots(Quartic {
         a: complex_at(args, 0),
         b: complex_at(args, 2),
         c: complex_at(args, 4),
