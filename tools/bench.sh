@@ -1,12 +1,14 @@
 #!/usr/bin/env bash
 # The solve call of the library beside the reference program's (`rules`, and `machine`, which has the
-# standard library's sine, arctangent and cube root), on the same poses in one run: for families 1
-# to 5, and for family 6 by n, instructions and time for each solve, in family 6 also for each
-# evaluation. Writes docs/bench.csv and the plot docs/bench.svg, and prints the table.
+# standard library's sine, arctangent and cube root) and the published Rust over nalgebra
+# (`untouched`), on the same poses in one run: for families 1 to 5, and for family 6 by n,
+# instructions and time for each solve, in family 6 also for each evaluation. Writes docs/bench.csv
+# and the plot docs/bench.svg, and prints the table.
 #   tools/bench.sh [-c COUNTED] [-t TIMED] [-r ROUNDS]
 # Time: TIMED poses (1000), the least of ROUNDS rounds (20; in family 6 of a quarter of them).
 # Instructions: callgrind, 1000 poses in families 1 to 5, COUNTED (100) in family 6.
-# Needs rt, rustc, valgrind and python3.
+# Needs rt, rustc, valgrind and python3, and for `untouched` what `tools/untouched.sh SOURCES` builds in
+# target/untouched. Where that is missing it is left out, and said. Its n is 200.
 set -euo pipefail
 cd "$(dirname "$0")/.."
 counted=100 timed=1000 rounds=20
@@ -21,7 +23,15 @@ done
 rt staticlib saihkeb >/dev/null
 mkdir -p target/bench
 bench=target/bench/solve
-rustc -C opt-level=3 --edition 2021 -o $bench tools/bench/solve.rs -L native=target/staticlib -l static=saihkeb
+built=target/untouched/built/release
+more=()
+if [ -e $built/libuntouched.rlib ]; then
+    more=(--cfg untouched --extern "untouched=$built/libuntouched.rlib" -L "dependency=$built/deps")
+else
+    echo "tools/bench.sh: without the published Rust, which tools/untouched.sh builds" >&2
+fi
+rustc -C opt-level=3 --edition 2021 --check-cfg 'cfg(untouched, test)' -o $bench tools/bench/solve.rs \
+    -L native=target/staticlib -l static=saihkeb "${more[@]}"
 
 # instructions of bench_run, then the evaluations that it made
 count() {

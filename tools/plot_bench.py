@@ -10,7 +10,8 @@ import csv
 import sys
 
 SIDES = ("port", "rules", "machine")
-COLOURS = {"port": "#c02020", "rules": "#2050c0", "machine": "#208040"}
+UNTOUCHED = "untouched"  # the published Rust, which is not there in every run or for every n
+COLOURS = {"port": "#c02020", "rules": "#2050c0", "machine": "#208040", UNTOUCHED: "#806000"}
 MHZ = 400
 WIDTH, HEIGHT, LEFT, RIGHT, TOP, BOTTOM = 720, 440, 80, 80, 50, 60
 
@@ -28,17 +29,33 @@ def number(row, name):
     return float(row[name])
 
 
+def row(cells):
+    print("| " + " | ".join(cells) + " |")
+
+
+def measured(sides, what, wanted):
+    """A number for each side, then the port's over the machine's, and over the published Rust's if that is wanted."""
+    least = number(sides["port"], what)
+    numbers = [f"{number(sides[s], what):,.0f}" for s in SIDES]
+    ratios = [f"{least / number(sides['machine'], what):.2f}"]
+    if wanted:
+        there = UNTOUCHED in sides
+        numbers.append(f"{number(sides[UNTOUCHED], what):,.0f}" if there else "")
+        ratios.append(f"{least / number(sides[UNTOUCHED], what):.2f}" if there else "")
+    return numbers + ratios
+
+
 def table(groups):
-    print("| family, n | poses | port | rules | machine | port / machine | ms at 400 MHz | ns: port | rules | machine | port / machine |")
-    print("|---|---|---|---|---|---|---|---|---|---|---|")
+    wanted = any(UNTOUCHED in sides for sides in groups.values())
+    names = ["port", "rules", "machine", *[UNTOUCHED] * wanted, "port / machine", *["port / untouched"] * wanted]
+    head = ["family, n", "poses", *names, "ms at 400 MHz", "ns: port", *names[1:]]
+    row(head)
+    print("|---" * len(head) + "|")
     for (family, n), sides in groups.items():
-        count = [number(sides[s], "instructions") for s in SIDES]
-        time = [number(sides[s], "ns") for s in SIDES]
         name = f"{family}, {n}" if n else f"{family}"
-        cells = [name, sides["port"]["poses_counted"]]
-        cells += [f"{x:,.0f}" for x in count] + [f"{count[0] / count[2]:.2f}", f"{count[0] / MHZ / 1e3:.2f}"]
-        cells += [f"{x:,.0f}" for x in time] + [f"{time[0] / time[2]:.2f}"]
-        print("| " + " | ".join(cells) + " |")
+        at_400 = f"{number(sides['port'], 'instructions') / MHZ / 1e3:.2f}"
+        row([name, sides["port"]["poses_counted"], *measured(sides, "instructions", wanted), at_400,
+             *measured(sides, "ns", wanted)])
     print()
     print("| family 6, n | evaluations a solve | instructions an evaluation: port | rules | machine | port / machine | ns: port | rules | machine | port / machine |")
     print("|---|---|---|---|---|---|---|---|---|---|")
@@ -50,7 +67,7 @@ def table(groups):
         cells = [str(n), f"{number(sides['port'], 'evaluations'):,.0f}"]
         for three in (count, time):
             cells += [f"{x:,.0f}" for x in three] + [f"{three[0] / three[2]:.2f}"]
-        print("| " + " | ".join(cells) + " |")
+        row(cells)
 
 
 def text(x, y, words, anchor="middle", more=""):
@@ -63,7 +80,11 @@ def line(x1, y1, x2, y2, colour):
 
 def plot(groups, path):
     """Millions of instructions a solve against n: straight axes, both from 0."""
-    points = {s: [(n, number(sides[s], "instructions") / 1e6) for (f, n), sides in groups.items() if f == 6] for s in SIDES}
+    points = {
+        s: [(n, number(sides[s], "instructions") / 1e6) for (f, n), sides in groups.items() if f == 6 and s in sides]
+        for s in (*SIDES, UNTOUCHED)
+    }
+    points = {side: marks for side, marks in points.items() if marks}
     most_n = 400
     step = 2
     top = step
@@ -90,7 +111,7 @@ def plot(groups, path):
     out.append(text(24, middle, "million instructions a solve", more=f'transform="rotate(-90 24 {middle})"'))
     right = WIDTH - 18
     out.append(text(right, middle, "ms at 400 MHz, one instruction a cycle", more=f'transform="rotate(90 {right} {middle})"'))
-    for i, side in enumerate(SIDES):
+    for i, side in enumerate(points):
         marks = [at(n, y) for n, y in points[side]]
         path_points = " ".join(f"{x:.1f},{y:.1f}" for x, y in marks)
         colour = COLOURS[side]

@@ -1,16 +1,19 @@
 //! The arithmetic that document 01 fixes for scalars, and the machine's own beside it.
 //!
-//! Everything above this file is generic over [`Arith`], a trait of two empty types. Each run is
-//! thus compiled for one of them, with no choice left at the calls, so that instruction counts of
-//! the two can be compared.
+//! Everything above this file is generic over [`Arith`], a trait of empty types. Each run is thus
+//! compiled for one of them, with no choice left at the calls, so that instruction counts can be
+//! compared.
 
 use crate::complex::Complex;
 use crate::nearest;
 use std::f64::consts::{FRAC_PI_2, FRAC_PI_4, PI, TAU};
 
 /// The functions that other crates or the machine would decide. Those that IEEE 754 decides
-/// (+ - * / and the square root) and the exact `%` are the same in both and are no part of it.
+/// (+ - * / and the square root) and the exact `%` are the same in all and are no part of it.
 pub trait Arith {
+    /// Whether subproblem 6 takes nalgebra's QR in place of document 01's.
+    const NALGEBRA_QR: bool = false;
+
     fn sin(x: f64) -> f64;
     fn cos(x: f64) -> f64;
     fn sin_cos(x: f64) -> (f64, f64);
@@ -26,6 +29,9 @@ pub struct Rules;
 
 /// The standard library's functions, and the complex roots as num-complex takes them.
 pub struct Machine;
+
+/// The machine's functions, and nalgebra's QR.
+pub struct Nalgebra;
 
 /// (-1)^j / (2j+1)! for j = 0 to 8. Every factorial here is an f64 exactly, so each
 /// coefficient is one division.
@@ -268,6 +274,50 @@ impl Arith for Machine {
         }
         let (root, angle) = (Self::modulus(z).cbrt(), z.im.atan2(z.re) / 3.0);
         Complex::new(root * angle.cos(), root * angle.sin())
+    }
+}
+
+impl Arith for Nalgebra {
+    const NALGEBRA_QR: bool = true;
+
+    #[inline]
+    fn sin(x: f64) -> f64 {
+        Machine::sin(x)
+    }
+
+    #[inline]
+    fn cos(x: f64) -> f64 {
+        Machine::cos(x)
+    }
+
+    #[inline]
+    fn sin_cos(x: f64) -> (f64, f64) {
+        Machine::sin_cos(x)
+    }
+
+    #[inline]
+    fn atan2(y: f64, x: f64) -> f64 {
+        Machine::atan2(y, x)
+    }
+
+    #[inline]
+    fn cbrt(x: f64) -> f64 {
+        Machine::cbrt(x)
+    }
+
+    #[inline]
+    fn modulus(z: Complex) -> f64 {
+        Machine::modulus(z)
+    }
+
+    #[inline]
+    fn complex_sqrt(z: Complex) -> Complex {
+        Machine::complex_sqrt(z)
+    }
+
+    #[inline]
+    fn complex_cbrt(z: Complex) -> Complex {
+        Machine::complex_cbrt(z)
     }
 }
 

@@ -25,7 +25,7 @@ pub struct Largest {
 }
 
 impl Largest {
-    fn note(&mut self, difference: f64, place: u64) {
+    pub fn note(&mut self, difference: f64, place: u64) {
         self.answers += 1;
         if difference > self.difference {
             self.difference = difference;
@@ -46,7 +46,7 @@ pub struct Difference {
 }
 
 /// Modulo TAU; 0 where both are NaN, infinite where one is.
-fn apart(a: &Vector6, b: &Vector6) -> f64 {
+pub fn apart(a: &Vector6, b: &Vector6) -> f64 {
     let one = |(x, y): (f64, f64)| match (x.is_nan(), y.is_nan()) {
         (true, true) => 0.0,
         (false, false) => wrap_to_pi(x - y).abs(),
@@ -76,7 +76,7 @@ fn determinant(mut m: [[f64; 6]; 6]) -> f64 {
     product.abs()
 }
 
-fn is_singular(kin: &Kinematics, angles: &Vector6) -> bool {
+pub fn is_singular(kin: &Kinematics, angles: &Vector6) -> bool {
     let length: f64 = (0..7).map(|i| kin.p.column(i).norm()).sum();
     let mut r = Matrix3::identity();
     let mut at: Vector3 = kin.p.column(0);

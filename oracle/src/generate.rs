@@ -30,9 +30,11 @@ pub enum Kind {
     /// An arm that leads its solver into double roots or divisions by zero, and the pose that
     /// random angles give it.
     Degenerate,
+    /// A realistic arm, and the pose that round angles give it.
+    Round,
 }
 
-pub const KINDS: [(&str, Kind); 7] = [
+pub const KINDS: [(&str, Kind); 8] = [
     ("reachable", Kind::Reachable),
     ("unreachable", Kind::Unreachable),
     ("bent", Kind::Bent),
@@ -40,6 +42,7 @@ pub const KINDS: [(&str, Kind); 7] = [
     ("hostile", Kind::Hostile),
     ("headers", Kind::Headers),
     ("degenerate", Kind::Degenerate),
+    ("round", Kind::Round),
 ];
 
 /// One arm and pose.
@@ -84,6 +87,7 @@ fn generator(kind: Kind, family: u64, seed: u64, place: u64) -> Rng {
         Kind::Hostile => 2,
         Kind::Headers => 3,
         Kind::Degenerate => 4,
+        Kind::Round => 5,
     };
     Rng::of(&[seed, stream, family, place])
 }
@@ -102,8 +106,21 @@ pub fn sample(kind: Kind, family: u64, seed: u64, place: u64, n: Option<u64>) ->
             (sample.arm, sample.arm_name) = degenerate(family, rng);
             sample.pose = pose_of(&sample.arm, &sample.angles);
         }
+        Kind::Round => {
+            sample.angles = round_angles(rng);
+            sample.pose = pose_of(&sample.arm, &sample.angles);
+        }
     }
     sample
+}
+
+/// All six whole multiples of 1, 5, 15, 30, 45 or 90 degrees, above -180 and up to 180.
+fn round_angles(rng: &mut Rng) -> [f64; 6] {
+    let step = rng.pick(&[1, 5, 15, 30, 45, 90]);
+    std::array::from_fn(|_| {
+        let steps = rng.below(360 / step) + 1;
+        ((steps * step) as f64 - 180.0).to_radians()
+    })
 }
 
 fn reachable(family: u64, n: Option<u64>, rng: &mut Rng) -> Sample {

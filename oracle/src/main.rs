@@ -4,6 +4,7 @@
 mod arith;
 mod arms;
 mod bench;
+mod beside;
 mod block;
 mod cases;
 mod complex;
@@ -19,6 +20,7 @@ mod known_results;
 mod lacking;
 mod linalg;
 mod missed;
+mod nalgebra;
 mod nearest;
 mod odd;
 mod recover;
@@ -29,7 +31,7 @@ mod solutionset;
 mod solve;
 mod subproblems;
 
-use arith::{Arith, Machine, Rules};
+use arith::{Arith, Machine, Nalgebra, Rules};
 use block::canonical_bits;
 use functions::{Function, Group};
 use inverse_kinematics::{
@@ -38,7 +40,8 @@ use inverse_kinematics::{
 };
 use recover::By;
 use std::f64::consts::PI;
-use std::io::{self, BufRead, BufWriter, Read, Write};
+use std::fs::File;
+use std::io::{self, BufRead, BufReader, BufWriter, Read, Write};
 use std::process::ExitCode;
 
 const USAGE: &str = "\
@@ -51,9 +54,9 @@ usage: oracle COMMAND
   call NAME                              run one function on each line of hexadecimal arguments
   call --list                            the functions with their argument words
   generate KIND FAMILY SEED COUNT [N]    blocks; KIND is reachable, unreachable, bent, random,
-                                         hostile, headers or degenerate
+                                         hostile, headers, degenerate or round
   angles KIND FAMILY SEED COUNT [N]      the angles that made the poses of generate's blocks
-  recover KIND FAMILY SEED COUNT [N]     how many poses, reachable or degenerate, have their own
+  recover KIND FAMILY SEED COUNT [N]     how many poses, reachable, degenerate or round, have their own
                                          angles among their answers (n = 200 in family 6);
                                          --arms adds a line for each arm, --tilt for each range
                                          of the angle between axes 2 and 5, --distance for how
@@ -68,6 +71,9 @@ usage: oracle COMMAND
                                          A:B:7 are 7 steps from A to B
   differ FAMILY SEED COUNT [N]           the largest difference between the answers under
                                          document 01's rules and under the machine's functions
+  beside KIND FAMILY SEED COUNT N ONE TWO
+                                         two programs' lines for generate's blocks, from the
+                                         files ONE and TWO, beside each other
   cases GROUP SEED COUNT [ID..]          test records; GROUP is float, linear, complex, polynomial,
                                          subproblems, kinematics or families
   searches KIND SEED COUNT [N]           searches of family 6 with all that they find, as records;
@@ -76,16 +82,23 @@ usage: oracle COMMAND
   bench GROUP ID COUNT SEED [N]          run one function COUNT times over inputs made before;
                                          the group family is families
 
-Option --machine takes the machine's sine, cosine, arctangent and roots instead of document 01's.
+Option --machine takes the machine's sine, cosine, arctangent and roots instead of document 01's,
+option --nalgebra these and nalgebra's QR.
 ";
 
 /// The command line apart from its options.
 struct CommandLine {
     words: Vec<String>,
-    machine: bool,
+    arithmetic: Arithmetic,
     list: bool,
     by: By,
     room: usize,
+}
+
+enum Arithmetic {
+    Rules,
+    Machine,
+    Nalgebra,
 }
 
 /// What went wrong, in words for the user.
@@ -104,7 +117,7 @@ fn main() -> ExitCode {
 fn parse(arguments: impl Iterator<Item = String>) -> Result<CommandLine, Failure> {
     let mut line = CommandLine {
         words: Vec::new(),
-        machine: false,
+        arithmetic: Arithmetic::Rules,
         list: false,
         by: By::Nothing,
         room: 1024,
@@ -112,7 +125,8 @@ fn parse(arguments: impl Iterator<Item = String>) -> Result<CommandLine, Failure
     let mut arguments = arguments;
     while let Some(argument) = arguments.next() {
         match argument.as_str() {
-            "--machine" => line.machine = true,
+            "--machine" => line.arithmetic = Arithmetic::Machine,
+            "--nalgebra" => line.arithmetic = Arithmetic::Nalgebra,
             "--list" => line.list = true,
             "--arms" => line.by = By::Arm,
             "--tilt" => line.by = By::Tilt,
@@ -130,10 +144,10 @@ fn parse(arguments: impl Iterator<Item = String>) -> Result<CommandLine, Failure
 
 fn dispatch(line: &CommandLine) -> Result<(), Failure> {
     let mut output = BufWriter::new(io::stdout().lock());
-    let done = if line.machine {
-        command::<Machine>(line, &mut output)
-    } else {
-        command::<Rules>(line, &mut output)
+    let done = match line.arithmetic {
+        Arithmetic::Rules => command::<Rules>(line, &mut output),
+        Arithmetic::Machine => command::<Machine>(line, &mut output),
+        Arithmetic::Nalgebra => command::<Nalgebra>(line, &mut output),
     };
     done.and_then(|()| told(output.flush()))
 }
@@ -169,7 +183,8 @@ fn command<A: Arith>(line: &CommandLine, output: &mut impl Write) -> Result<(), 
             let request = Generated::parse(kind, family, seed, count, n)?;
             request.write_angles(output)
         }
-        ["recover", kind @ ("reachable" | "degenerate"), family, seed, count, ref n @ ..] => {
+        ["recover", kind @ ("reachable" | "degenerate" | "round"), family, seed, count, ref n @ ..] =>
+        {
             let request = Generated::parse(kind, family, seed, count, n)?;
             told(request.write_recovered::<A>(output, line.by))
         }
@@ -177,7 +192,7 @@ fn command<A: Arith>(line: &CommandLine, output: &mut impl Write) -> Result<(), 
             let request = Generated::parse(kind, family, seed, count, n)?;
             told(request.write_lacking::<A>(output))
         }
-        ["missed", kind @ ("reachable" | "degenerate"), seed, count, ref n @ ..] => {
+        ["missed", kind @ ("reachable" | "degenerate" | "round"), seed, count, ref n @ ..] => {
             let request = Generated::parse(kind, "6", seed, count, n)?;
             told(request.write_missed::<A>(output))
         }
@@ -203,6 +218,10 @@ fn command<A: Arith>(line: &CommandLine, output: &mut impl Write) -> Result<(), 
         ["differ", family, seed, count, ref n @ ..] => {
             let request = Generated::parse("reachable", family, seed, count, n)?;
             told(request.write_differences(output))
+        }
+        ["beside", kind, family, seed, count, n, one, two] => {
+            let request = Generated::parse(kind, family, seed, count, &[n])?;
+            request.write_beside(output, one, two)
         }
         ["cases", group, seed, count, ref ids @ ..] => {
             let (group, seed, count) = (group_named(group)?, number(seed)?, number(count)?);
@@ -320,7 +339,10 @@ impl Generated {
 
     fn write_angles(&self, output: &mut impl Write) -> Result<(), Failure> {
         use generate::Kind::*;
-        if !matches!(self.kind, Reachable | Unreachable | Bent | Degenerate) {
+        if !matches!(
+            self.kind,
+            Reachable | Unreachable | Bent | Degenerate | Round
+        ) {
             return Err("poses of this kind are not made from angles".to_string());
         }
         for place in 0..self.count {
@@ -354,6 +376,20 @@ impl Generated {
             )?;
         }
         Ok(())
+    }
+
+    fn write_beside(&self, output: &mut impl Write, one: &str, two: &str) -> Result<(), Failure> {
+        let open = |path: &str| {
+            let file = File::open(path).map_err(|error| format!("{path}: {error}"))?;
+            Ok::<_, Failure>(beside::Lists::new(BufReader::new(file)))
+        };
+        let (mut one, mut two) = (open(one)?, open(two)?);
+        let mut found = beside::Beside::default();
+        for place in 0..self.count {
+            let sample = generate::sample(self.kind, self.family, self.seed, place, self.n);
+            found.look(place, &sample, one.next(place)?, two.next(place)?);
+        }
+        told(write_comparison(output, &found))
     }
 
     fn write_recovered<A: Arith>(&self, output: &mut impl Write, by: By) -> io::Result<()> {
@@ -408,6 +444,52 @@ fn write_counts(output: &mut impl Write, name: &str, r: &recover::Recovered) -> 
         r.untrue,
         r.flagged_true
     )
+}
+
+fn write_comparison(output: &mut impl Write, found: &beside::Beside) -> io::Result<()> {
+    writeln!(
+        output,
+        "poses {} panics {} {} other-length {} other-flags {} \
+         same-by-place {} same-as-sets {} same-unflagged {}",
+        found.poses,
+        found.panics[0],
+        found.panics[1],
+        found.other_length,
+        found.other_flags,
+        found.same_by_place,
+        found.same_as_sets,
+        found.same_unflagged
+    )?;
+    for (way, classes) in [("by-place", &found.by_place), ("as-sets", &found.as_sets)] {
+        for (class, name) in classes.iter().zip(beside::CLASSES) {
+            writeln!(
+                output,
+                "{way} {name} answers {} largest {:e} at {}",
+                class.answers, class.difference, class.place
+            )?;
+        }
+    }
+    for (side, classes) in ["first", "second"].into_iter().zip(&found.alone) {
+        for (class, name) in classes.iter().zip(beside::CLASSES) {
+            let at = class
+                .first
+                .map_or("-".to_string(), |place| place.to_string());
+            writeln!(
+                output,
+                "alone {side} {name} answers {} making-the-pose {} at {at}",
+                class.answers, class.makes
+            )?;
+        }
+    }
+    for (side, own) in ["first", "second"].into_iter().zip(&found.own) {
+        let (unflagged, flagged) = (own.unflagged, own.flagged);
+        let missing = own.missing;
+        writeln!(
+            output,
+            "own {side} unflagged {unflagged} flagged {flagged} missing {missing}"
+        )?;
+    }
+    writeln!(output, "own both missing {}", found.own_missing_in_both)
 }
 
 /// One line for each block: its place, the pairs and the evaluations; then one for each pair: q1,

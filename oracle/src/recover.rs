@@ -16,7 +16,7 @@ use std::collections::BTreeMap;
 use std::io::{self, Read, Write};
 
 /// Two angles are alike within this, modulo TAU.
-const TOLERANCE: f64 = 1e-6;
+pub const TOLERANCE: f64 = 1e-6;
 
 #[derive(Clone, Default)]
 pub struct Recovered {
@@ -72,7 +72,7 @@ impl Recovered {
 
 /// Whether an answer's pose is the sample's: the rotation's entries, and the place relative to the
 /// sum of the offsets' entries.
-fn makes_pose(sample: &Sample, answer: &Vector6) -> bool {
+pub fn makes_pose(sample: &Sample, answer: &Vector6) -> bool {
     let (r, p) = Kinematics::from_arm(&sample.arm).forward_kinematics::<Rules>(answer);
     let reach: f64 = sample.arm[18..].iter().map(|x| x.abs()).sum();
     let (rotation, place) = sample.pose.split_at(9);

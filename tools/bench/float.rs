@@ -20,10 +20,10 @@ use std::time::Instant;
 
 #[link(name = "float_c", kind = "static")]
 extern "C" {
-    fn saihkeb_sqrt(x: f64) -> f64;
-    fn saihkeb_cbrt(x: f64) -> f64;
-    fn saihkeb_sin_plus_cos(x: f64) -> f64;
-    fn saihkeb_atan2(y: f64, x: f64) -> f64;
+    fn bench_sqrt(x: f64) -> f64;
+    fn bench_cbrt(x: f64) -> f64;
+    fn bench_sin_plus_cos(x: f64) -> f64;
+    fn bench_atan2(y: f64, x: f64) -> f64;
 }
 
 const COUNT: usize = 4096;
@@ -58,19 +58,19 @@ fn rules_atan2(x: f64, y: f64) -> f64 {
 }
 #[inline(never)]
 fn port_sqrt(x: f64, _: f64) -> f64 {
-    unsafe { saihkeb_sqrt(x) }
+    unsafe { bench_sqrt(x) }
 }
 #[inline(never)]
 fn port_cbrt(x: f64, _: f64) -> f64 {
-    unsafe { saihkeb_cbrt(x) }
+    unsafe { bench_cbrt(x) }
 }
 #[inline(never)]
 fn port_sin_cos(x: f64, _: f64) -> f64 {
-    unsafe { saihkeb_sin_plus_cos(x) }
+    unsafe { bench_sin_plus_cos(x) }
 }
 #[inline(never)]
 fn port_atan2(x: f64, y: f64) -> f64 {
-    unsafe { saihkeb_atan2(x, y) }
+    unsafe { bench_atan2(x, y) }
 }
 
 type Function = fn(f64, f64) -> f64;

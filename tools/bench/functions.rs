@@ -34,6 +34,9 @@ mod inverse_kinematics;
 #[path = "../../oracle/src/linalg.rs"]
 mod linalg;
 #[allow(dead_code)]
+#[path = "../../oracle/src/nalgebra.rs"]
+mod nalgebra;
+#[allow(dead_code)]
 #[path = "../../oracle/src/nearest.rs"]
 mod nearest;
 #[allow(dead_code)]
@@ -73,11 +76,11 @@ use subproblems::{
 
 #[link(name = "calls_c", kind = "static")]
 extern "C" {
-    fn saihkeb_polynomial(id: u64, args: &[f64; 40], out: &mut [u64; 23]);
-    fn saihkeb_subproblem(id: u64, args: &[f64; 40], out: &mut [u64; 23]);
-    fn saihkeb_reduced_solutionset(count: u64, args: &[f64; 40], out: &mut [u64; 23]);
-    fn saihkeb_forward_kinematics(arm: &[f64; 39], theta: &[f64; 6], out: &mut [u64; 18]);
-    fn saihkeb_family(
+    fn bench_polynomial(id: u64, args: &[f64; 40], out: &mut [u64; 23]);
+    fn bench_subproblem(id: u64, args: &[f64; 40], out: &mut [u64; 23]);
+    fn bench_reduced_solutionset(count: u64, args: &[f64; 40], out: &mut [u64; 23]);
+    fn bench_forward_kinematics(arm: &[f64; 39], theta: &[f64; 6], out: &mut [u64; 18]);
+    fn bench_family(
         id: u64,
         arm: &[f64; 39],
         pose: &[f64; 12],
@@ -341,17 +344,17 @@ fn machine_family(
 fn port(group: Group, call: &mut Call) {
     unsafe {
         match (group, call.id) {
-            (Group::Polynomial, id) => saihkeb_polynomial(id, &call.args, &mut call.out),
+            (Group::Polynomial, id) => bench_polynomial(id, &call.args, &mut call.out),
             (Group::Subproblems, 10) => {
-                saihkeb_reduced_solutionset(call.count, &call.args, &mut call.out)
+                bench_reduced_solutionset(call.count, &call.args, &mut call.out)
             }
-            (Group::Subproblems, id) => saihkeb_subproblem(id, &call.args, &mut call.out),
+            (Group::Subproblems, id) => bench_subproblem(id, &call.args, &mut call.out),
             (Group::Kinematics, _) => {
-                saihkeb_forward_kinematics(&call.arm, &call.theta, &mut call.place)
+                bench_forward_kinematics(&call.arm, &call.theta, &mut call.place)
             }
             (_, id) => {
                 let (angles, flags) = (&mut call.angles, &mut call.flags);
-                call.count = saihkeb_family(id, &call.arm, &call.pose, angles, flags) as u64;
+                call.count = bench_family(id, &call.arm, &call.pose, angles, flags) as u64;
             }
         }
     }

@@ -1,10 +1,13 @@
 //! The solve call of the library beside the reference program's, on the same poses in one run.
 //! `rules` is the reference program over document 01's arithmetic, `machine` the same with the
 //! standard library's sine, arctangent and cube root. All three judge their input and write to lent
-//! lists.
+//! lists. With the setting `untouched` the published Rust over nalgebra is a side too, which judges
+//! nothing and gives lists of its own; they are written to the lent ones. Its n is 200.
 //!
-//! `solve time FAMILY N POSES ROUNDS` prints: evaluations a solve, and for port, rules and machine
-//! the nanoseconds a solve: each few poses take the least of all rounds. It stops where port and rules differ in a bit.
+//! `solve time FAMILY N POSES ROUNDS` prints for each side: its name, evaluations a solve (which the
+//! published Rust does not count), and the nanoseconds a solve: each few poses take the least of all
+//! rounds. It stops where port and rules differ in a bit, or the published Rust and the reference
+//! program with nalgebra's QR.
 //! `solve count FAMILY N POSES SIDE` solves each pose once with that side, for callgrind.
 //!
 //! The poses are the first of `oracle generate reachable FAMILY 1 POSES N`.
@@ -30,6 +33,9 @@ mod inverse_kinematics;
 #[allow(dead_code)]
 #[path = "../../oracle/src/linalg.rs"]
 mod linalg;
+#[allow(dead_code)]
+#[path = "../../oracle/src/nalgebra.rs"]
+mod nalgebra;
 #[allow(dead_code)]
 #[path = "../../oracle/src/nearest.rs"]
 mod nearest;
@@ -135,9 +141,47 @@ fn machine(s: &Sample, lent: &mut Lent) {
     oracle::<Machine>(s, lent);
 }
 
+#[cfg(untouched)]
+#[inline(never)]
+fn untouched(s: &Sample, lent: &mut Lent) {
+    let (angles, flags) = ::untouched::answers(s.family, &s.arm, &s.pose);
+    let slots = lent.angles.chunks_exact_mut(6).zip(&mut lent.flags);
+    for ((six, byte), (answer, flag)) in slots.zip(angles.iter().zip(&flags)) {
+        six.copy_from_slice(answer.as_slice());
+        *byte = *flag as u8;
+    }
+    lent.refusal = 0;
+    lent.answers = angles.len() as u64;
+    lent.evaluations = 0;
+}
+
 type Side = fn(&Sample, &mut Lent);
 
-const SIDES: [(&str, Side); 3] = [("port", port), ("rules", rules), ("machine", machine)];
+/// Those that can solve it.
+fn sides(_family: u64, _n: u64) -> Vec<(&'static str, Side)> {
+    #[allow(unused_mut)]
+    let mut sides: Vec<(&str, Side)> = vec![("port", port), ("rules", rules), ("machine", machine)];
+    #[cfg(untouched)]
+    if _family != 6 || _n == 200 {
+        sides.push(("untouched", untouched));
+    }
+    sides
+}
+
+/// Stops where two sides that must agree do not.
+fn agree(s: &Sample) {
+    let (mut a, mut b) = (Lent::new(), Lent::new());
+    port(s, &mut a);
+    rules(s, &mut b);
+    assert!(a.words() == b.words(), "port and rules differ");
+    #[cfg(untouched)]
+    if s.family != 6 || s.n == 200 {
+        untouched(s, &mut a);
+        oracle::<arith::Nalgebra>(s, &mut b);
+        b.evaluations = 0;
+        assert!(a.words() == b.words(), "untouched and nalgebra differ");
+    }
+}
 
 /// Kept out of line, so that a profiler can count from its start to its end.
 #[inline(never)]
@@ -160,31 +204,27 @@ fn together(family: u64) -> usize {
     }
 }
 
-fn time(samples: &[Sample], rounds: u64) {
-    let (mut a, mut b) = (Lent::new(), Lent::new());
-    for s in samples {
-        port(s, &mut a);
-        rules(s, &mut b);
-        assert!(a.words() == b.words(), "port and rules differ");
-    }
-    let (mut sums, mut evaluations) = ([0.0; SIDES.len()], [0; SIDES.len()]);
+fn time(sides: &[(&str, Side)], samples: &[Sample], rounds: u64) {
+    samples.iter().for_each(agree);
+    let mut lent = Lent::new();
+    let (mut sums, mut evaluations) = (vec![0.0; sides.len()], vec![0; sides.len()]);
     for some in samples.chunks(together(samples[0].family)) {
         // All sides in turn in every round, and the least time of each.
-        let (mut least, mut made) = ([f64::INFINITY; SIDES.len()], [0; SIDES.len()]);
+        let (mut least, mut made) = (vec![f64::INFINITY; sides.len()], vec![0; sides.len()]);
         for _ in 0..rounds {
-            for (i, (_, side)) in SIDES.iter().enumerate() {
+            for (i, (_, side)) in sides.iter().enumerate() {
                 let start = Instant::now();
-                made[i] = black_box(bench_run(*side, some, &mut a));
+                made[i] = black_box(bench_run(*side, some, &mut lent));
                 least[i] = least[i].min(start.elapsed().as_secs_f64());
             }
         }
-        for i in 0..SIDES.len() {
+        for i in 0..sides.len() {
             sums[i] += least[i];
             evaluations[i] += made[i];
         }
     }
     let each = |x: f64| x / samples.len() as f64;
-    for (i, (name, _)) in SIDES.iter().enumerate() {
+    for (i, (name, _)) in sides.iter().enumerate() {
         let (made, ns) = (each(evaluations[i] as f64), each(sums[i] * 1e9));
         println!("{name} {made:.2} {ns:.1}");
     }
@@ -198,10 +238,11 @@ fn main() {
         .map(|place| sample(Kind::Reachable, family, SEED, place, (n > 0).then_some(n)))
         .collect();
     assert!(samples.iter().all(|s| s.n == n), "n");
+    let sides = sides(family, n);
     if words[0] == "time" {
-        return time(&samples, number(4));
+        return time(&sides, &samples, number(4));
     }
-    let (_, side) = SIDES
+    let (_, side) = sides
         .iter()
         .find(|(name, _)| *name == words[4])
         .expect("a side");

@@ -1,21 +1,21 @@
 // The functions by number for a C or Rust caller: what tools/bench_functions.sh measures.
 #[no_mangle]
-pub extern "C" fn saihkeb_polynomial(id: u64, args: &[f64; 40], out: &mut [u64; 23]) {
+pub extern "C" fn bench_polynomial(id: u64, args: &[f64; 40], out: &mut [u64; 23]) {
     polynomial_calls::polynomial(id, args, out);
 }
 
 #[no_mangle]
-pub extern "C" fn saihkeb_subproblem(id: u64, args: &[f64; 40], out: &mut [u64; 23]) {
+pub extern "C" fn bench_subproblem(id: u64, args: &[f64; 40], out: &mut [u64; 23]) {
     subproblem_calls::subproblem(id, args, out);
 }
 
 #[no_mangle]
-pub extern "C" fn saihkeb_reduced_solutionset(count: u64, args: &[f64; 40], out: &mut [u64; 23]) {
+pub extern "C" fn bench_reduced_solutionset(count: u64, args: &[f64; 40], out: &mut [u64; 23]) {
     subproblem_calls::reduced_solutionset(count, args, out);
 }
 
 #[no_mangle]
-pub extern "C" fn saihkeb_family(
+pub extern "C" fn bench_family(
     id: u64,
     arm: &[f64; 39],
     pose: &[f64; 12],
@@ -26,10 +26,6 @@ pub extern "C" fn saihkeb_family(
 }
 
 #[no_mangle]
-pub extern "C" fn saihkeb_forward_kinematics(
-    arm: &[f64; 39],
-    theta: &[f64; 6],
-    out: &mut [u64; 18],
-) {
+pub extern "C" fn bench_forward_kinematics(arm: &[f64; 39], theta: &[f64; 6], out: &mut [u64; 18]) {
     family_calls::forward_kinematics(arm, *theta, out);
 }

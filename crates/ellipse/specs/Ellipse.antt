@@ -1,4 +1,4 @@
--- subproblems/auxiliary.rs: solve_two_ellipse_numeric. An ellipse is xm' xm + xi' xn' xn xi + xm' xn xi = 1.
+-- subproblems/auxiliary.rs: solve_two_ellipse_numeric. An ellipse is xm' xm + xi' xn' xn xi + 2 xm' xn xi = 1.
 use mathlib.Core.List.{map}
 use lib.Ieee.{Float, neg}
 use Rattle.float.specs.Num.{_⊕_, _⊖_, _⊗_, _⊘_, one, two}

@@ -1,4 +1,4 @@
--- The place that the first joints have to reach, as families 3 to 6 write it (families 1 and 2 subtract in another order).
+-- p_16 of families 3 to 5. (Families 1 and 2 subtract in another order; family 6 has the same in search_error: specs/Error.antt.)
 use Rattle.linear.specs.Matrix.{Matrix, apply}
 use Rattle.linear.specs.Vector.{_-ᵛ_}
 use Rattle.vector.specs.declared.Vector3.{Vector3}

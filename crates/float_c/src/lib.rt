@@ -6,14 +6,14 @@ ghost use Rattle.float.specs.Arctangent.{atan2};
 ghost use Rattle.float.specs.Num.{_⊕_};
 
 #[no_mangle]
-pub extern "C" fn saihkeb_sqrt(x: f64) -> f64
+pub extern "C" fn bench_sqrt(x: f64) -> f64
     ensures { λ r. ⌜ r ≡ sqrt x ⌝ }
 {
     float::sqrt(x)
 }
 
 #[no_mangle]
-pub extern "C" fn saihkeb_cbrt(x: f64) -> f64
+pub extern "C" fn bench_cbrt(x: f64) -> f64
     ensures { λ r. ⌜ r ≡ cbrt x ⌝ }
 {
     float::cbrt(x)
@@ -21,7 +21,7 @@ pub extern "C" fn saihkeb_cbrt(x: f64) -> f64
 
 // The sine and the cosine of one reduction, added: one number for a caller that takes one.
 #[no_mangle]
-pub extern "C" fn saihkeb_sin_plus_cos(x: f64) -> f64
+pub extern "C" fn bench_sin_plus_cos(x: f64) -> f64
     ensures { λ r. ⌜ r ≡ sin x ⊕ cos x ⌝ }
 {
     let both = float::sin_cos(x);
@@ -29,7 +29,7 @@ pub extern "C" fn saihkeb_sin_plus_cos(x: f64) -> f64
 }
 
 #[no_mangle]
-pub extern "C" fn saihkeb_atan2(y: f64, x: f64) -> f64
+pub extern "C" fn bench_atan2(y: f64, x: f64) -> f64
     ensures { λ r. ⌜ r ≡ atan2 y x ⌝ }
 {
     float::atan2(y, x)

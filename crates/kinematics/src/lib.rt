@@ -1,5 +1,5 @@
 // The arm as a value, the pose, and forward kinematics: each function equals its definition in
-// specs/ on every input.
+// specs/. Those that read a list ask for its length; `forward_kinematics` asks nothing.
 use linear::Matrix3;
 use linear::Vector3;
 ghost use mathlib.Core.Path.{_≡_};

@@ -63,9 +63,9 @@ pub data Near (x y : Float) : Type 0 where
   same : x ≡ y → Near x y
   zeros : (s t : Bool) → x ≡ zeroed s → y ≡ zeroed t → Near x y
 
-turned : {x y : Float} → Near x y → Near y x
-turned (same p) = same (sym p)
-turned (zeros s t p q) = zeros t s q p
+reversed : {x y : Float} → Near x y → Near y x
+reversed (same p) = same (sym p)
+reversed (zeros s t p q) = zeros t s q p
 
 joined : {x y z : Float} → Near x y → Near y z → Near x z
 joined (same p) (same q) = same (p ∙ q)
@@ -90,7 +90,7 @@ add-right t (fin s (suc m) e) f = same (right-own s t m e f)
 pub near-add : {x y : Float} (w : Float) → T (fits binary64 w) → Near x y → Near (x ⊕ w) (y ⊕ w)
 near-add w f (same p) = same (cc)
 near-add w f (zeros s t p q) =
-    joined (joined (same (cc)) (add-left s w f)) (turned (joined (same (cc)) (add-left t w f)))
+    joined (joined (same (cc)) (add-left s w f)) (reversed (joined (same (cc)) (add-left t w f)))
 
 -- ---- products with a zero
 zero-times : (s t : Bool) (n : ℕ) (d : ℤ) → zeroed s ⊗ fin t n d ≡ zeroed (unlike s t)
@@ -213,7 +213,7 @@ unfolding mul
 times-lost v p g h = cc (mul-nan p)
 
 times : {b : Bool} (v p : Float) {x y : Float} → Like b x p → Like b y v → Near (x ⊗ v) (p ⊗ y)
-times v p (kept g) (kept h) = near-mul g (turned h)
+times v p (kept g) (kept h) = near-mul g (reversed h)
 times v p (lost g) (lost h) = same (times-lost v p g h)
 
 pub entry : (a w v : Float) {x p : Float} → Takes a → T (fits binary64 v) → Like (finite w) x p → a ⊕ x ⊗ v ≡ a ⊕ p ⊗ (v ⊕ nought ⊗ w)

@@ -1,3 +1,2 @@
 pub mod Vector
 pub mod Matrix
-pub mod LinearValues

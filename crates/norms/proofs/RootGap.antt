@@ -17,15 +17,35 @@ use lib.Ieee.Positive.{positive}
 use borrow.Author.Tests.{ltb-true, ltb-false, le-ltb}
 use Rattle.float.specs.Num.{_⊖_, nought, one}
 use Rattle.float.specs.Number.{abs}
-use Rattle.root.specs.Root.{Root, sqrt, roundedSqrt, wholeSqrt, sticky, scaled}
+use Rattle.root.specs.Root.{WholeRoot, square, wholeRoot, in-halves, rounded, scaled, sqrt}
 use Rattle.float.specs.Size.{Unsigned}
-use Rattle.root.proofs.Decode.{opened, neg-round, is-positive}
-use Rattle.root.proofs.Whole.{twice-sqrt, square-root-of}
-use Rattle.root.proofs.Squares.{square-suc, least, most}
-use Rattle.norms.specs.Norms.{below-tolerance, above-tolerance, Near, Far, two^-42, two^-21, two^-17, two^-7, two^20, two^60}
+use Rattle.root.proofs.Decode.{sqrt-open, neg-round, is-positive}
+use Rattle.root.proofs.Power.{squares, least, most}
+use Rattle.root.proofs.Whole.{twice, whole-root}
+use Rattle.root.proofs.Squares.{square-suc}
+use Rattle.norms.specs.Norms.{below-tolerance, above-tolerance, Near, Far}
 use Rattle.norms.specs.Norms as norms
-use Rattle.norms.proofs.Fractions.{whole-low, whole-high, up-to, away}
-use Rattle.triple_sort.proofs.NumberOrder.{by-test, lt-one-way, lt-through}
+use Rattle.norms.proofs.Fractions.{quotient-low, quotient-high, up-to, away}
+use Rattle.scalar.proofs.Order.{by-test, lt-one-way, lt-through}
+
+-- ---- the powers of two that the tests of src/ compare with, by their bits as there
+abbrev pub two^-42 : Float
+two^-42 = ofBits binary64 0x3d50_0000_0000_0000
+
+abbrev pub two^-21 : Float
+two^-21 = ofBits binary64 0x3ea0_0000_0000_0000
+
+abbrev pub two^-17 : Float
+two^-17 = ofBits binary64 0x3ee0_0000_0000_0000
+
+abbrev pub two^-7 : Float
+two^-7 = ofBits binary64 0x3f80_0000_0000_0000
+
+abbrev pub two^20 : Float
+two^20 = ofBits binary64 0x4130_0000_0000_0000
+
+abbrev pub two^60 : Float
+two^60 = ofBits binary64 0x43b0_0000_0000_0000
 
 -- ---- comparisons
 is-true : (t : Bool) → T t → t ≡ true
@@ -159,12 +179,12 @@ steps x = scaled 42 x
 finer-low : (n p k : ℕ) → 0 < p → n / p * 2 ^ k ≤ n * 2 ^ k / p
 finer-low n p k P =
     le-div-iff-mul-le P .1
-    (le-trans (le-of-eq (mul-right-comm (n / p) (2 ^ k) p)) (mul-le-mul-right (2 ^ k) (whole-low n p)))
+    (le-trans (le-of-eq (mul-right-comm (n / p) (2 ^ k) p)) (mul-le-mul-right (2 ^ k) (quotient-low n p)))
 
 finer-high : (n p k : ℕ) → 0 < p → n * 2 ^ k / p < (n / p + 1) * 2 ^ k
 finer-high n p k P =
     div-lt-iff-lt-mul P .1
-    (lt-of-lt-of-le (mul-lt-mul-of-pos-right (whole-high n p P) (pow-pos k)) (le-of-eq (mul-right-comm (n / p + 1) p (2 ^ k))))
+    (lt-of-lt-of-le (mul-lt-mul-of-pos-right (quotient-high n p P) (pow-pos k)) (le-of-eq (mul-right-comm (n / p + 1) p (2 ^ k))))
 
 -- squares of steps of 2 ^ -21 are whole numbers of steps of 2 ^ -42
 squared : (l : ℕ) → l * 2 ^ 1053 * (l * 2 ^ 1053) ≡ l * l * 2 ^ 2106
@@ -174,7 +194,7 @@ halves : (l A B : ℕ) → l * (2 * A * B) ≡ 2 * (l * A) * B
 halves l A B = sym (mul-assoc l (2 * A) B) ∙ ap (λ (x : ℕ). x * B) (mul-left-comm l 2 A)
 
 root-between : (x : Float) → T (positive x) → (l h : ℕ) → l * l ≤ steps x → steps x < h * h → l < 2 ^ 53 → h < 2 ^ 53 → Between (2 ^ 21) l h (sqrt x)
-unfolding roundedSqrt
+unfolding rounded
 root-between nan p l h u v i j = absurd p
 root-between (inf s) p l h u v i j = absurd p
 root-between (fin true m e) p l h u v i j = absurd p
@@ -187,11 +207,11 @@ root-between (fin false m e) p l h u v i j =
     let a : l * 2 ^ 1053 * (l * 2 ^ 1053) ≤ N = le-trans (le-of-eq (squared l)) (le-trans (mul-le-mul-right (2 ^ 2106) u) (le-trans (finer-low n (down e) 2106 (down-pos e)) (le-of-eq (sym is)))) in
     let more : (n / down e + 1) * 2 ^ 2106 ≤ h * h * 2 ^ 2106 = mul-le-mul-right (2 ^ 2106) (let w = v in omega arith) in
     let b : N ≤ h * 2 ^ 1053 * (h * 2 ^ 1053) = le-of-lt (lt-of-le-of-lt (le-of-eq is) (lt-of-lt-of-le (finer-high n (down e) 2106 (down-pos e)) (le-trans more (le-of-eq (sym (squared h)))))) in
-    let S = sticky (wholeSqrt N) (wholeSqrt N * wholeSqrt N) N in
-    let t = twice-sqrt N in
+    let S = in-halves square N in
+    let t = twice squares N in
     let f : l * 2 ^ 1075 ≤ S * 2 ^ 21 = le-trans (le-of-eq (halves l (2 ^ 1053) (2 ^ 21))) (mul-le-mul-right (2 ^ 21) (t .reaches (l * 2 ^ 1053) a)) in
     let g : S * 2 ^ 21 ≤ h * 2 ^ 1075 = le-trans (mul-le-mul-right (2 ^ 21) (t .within (h * 2 ^ 1053) b)) (le-of-eq (sym (halves h (2 ^ 1053) (2 ^ 21)))) in
-    subst (Between (2 ^ 21) l h) (sym (opened x p)) (round-between S (2 ^ 1075) l h (pow-pos 1075) f g i j)
+    subst (Between (2 ^ 21) l h) (sym (sqrt-open x p)) (round-between S (2 ^ 1075) l h (pow-pos 1075) f g i j)
 
 -- ---- differences
 abbrev gap : ℕ → ℕ → ℕ
@@ -361,7 +381,7 @@ unfolding ofBits
 finite-beside x y c p z t = is-positive y (subst T (sym z) tt) (near-finite x y c p t)
 
 -- a number of steps that is n or at most R more lies from G squared to the square of G + 2
-squares-around : (a n R G : ℕ) → Root n G → n ≤ a → a ≤ n + R → R < 2 * G + 4 → (G * G ≤ a) × (a < (G + 2) * (G + 2))
+squares-around : (a n R G : ℕ) → WholeRoot square n G → n ≤ a → a ≤ n + R → R < 2 * G + 4 → (G * G ≤ a) × (a < (G + 2) * (G + 2))
 squares-around a n R G r p q s =
     let low = r .low in
     let high = r .high in
@@ -370,12 +390,12 @@ squares-around a n R G r p q s =
     (omega arith, omega arith)
 
 -- roots whose numbers of steps are at most R apart
-near-roots : (x y : Float) → T (positive x) → T (positive y) → (R : ℕ) → steps x ≤ steps y + R → steps y ≤ steps x + R → R < 2 * wholeSqrt (min (steps x) (steps y)) + 4 → steps x < 2 ^ 51 * 2 ^ 51 → Near x y
+near-roots : (x y : Float) → T (positive x) → T (positive y) → (R : ℕ) → steps x ≤ steps y + R → steps y ≤ steps x + R → R < 2 * wholeRoot square (min (steps x) (steps y)) + 4 → steps x < 2 ^ 51 * 2 ^ 51 → Near x y
 near-roots x y p q R i j s f =
     let n = min (steps x) (steps y) in
-    let G = wholeSqrt n in
-    let r = square-root-of n in
-    let small = most n G (2 ^ 51) r (lt-of-le-of-lt (let z : n ≤ steps x = omega arith in z) f) in
+    let G = wholeRoot square n in
+    let r = whole-root squares n in
+    let small = most squares n G (2 ^ 51) r (lt-of-le-of-lt (let z : n ≤ steps x = omega arith in z) f) in
     let u = squares-around (steps x) n R G r (omega arith) (omega arith) s in
     let v = squares-around (steps y) n R G r (omega arith) (omega arith) s in
     near-apart G (sqrt x) (sqrt y)
@@ -420,7 +440,7 @@ module _ (m n : ℕ) (e d : ℤ) where
       let v = under-power m e 60 (unfold ofBits in u) in
       let n = min (steps x) (steps y) in
       let g : 2 ^ 20 * 2 ^ 20 ≤ n = omega arith in
-      let b = least n (wholeSqrt n) (2 ^ 20) (square-root-of n) g in
+      let b = least squares n (wholeRoot square n) (2 ^ 20) (whole-root squares n) g in
       near-roots x y p q (2 ^ 21) i j (omega arith) (lt-of-lt-of-le v (lit≤ tt))
 
 -- roots whose numbers of steps are more than R apart, and the difference taken either way
@@ -434,20 +454,20 @@ four-on G =
     let f = rw e at d in
     omega arith
 
-far-roots : (x y : Float) → T (positive x) → T (positive y) → (R : ℕ) → steps x + R ≤ steps y → 8 * wholeSqrt (steps x) + 16 ≤ R → steps y < 2 ^ 51 * 2 ^ 51 → Far x y × Far y x
+far-roots : (x y : Float) → T (positive x) → T (positive y) → (R : ℕ) → steps x + R ≤ steps y → 8 * wholeRoot square (steps x) + 16 ≤ R → steps y < 2 ^ 51 * 2 ^ 51 → Far x y × Far y x
 far-roots x y p q R i s f =
-    let G = wholeSqrt (steps x) in
-    let H = wholeSqrt (steps y) in
-    let r = square-root-of (steps x) in
-    let t = square-root-of (steps y) in
+    let G = wholeRoot square (steps x) in
+    let H = wholeRoot square (steps y) in
+    let r = whole-root squares (steps x) in
+    let t = whole-root squares (steps y) in
     let rl = r .low in
     let rh = r .high in
     let tl = t .low in
     let th = t .high in
-    let small = most (steps y) H (2 ^ 51) t f in
+    let small = most squares (steps y) H (2 ^ 51) t f in
     let e = four-on G in
     let on : (G + 4) * (G + 4) ≤ steps y = omega arith in
-    let up-to-it = least (steps y) H (G + 4) t on in
+    let up-to-it = least squares (steps y) H (G + 4) t on in
     far-apart G (H + 1) (sqrt x) (sqrt y)
     (root-between x p G (G + 1) rl rh (omega arith) (omega arith))
     (root-between y q (G + 4) (H + 1) on th (omega arith) (omega arith))
@@ -470,13 +490,13 @@ module _ (m n : ℕ) (e d : ℤ) where
       (λ l.
       let z : cross m e d ≤ cross n d e = le-of-lt (ltb-true (cross m e d) (cross n d e) l) in
       let c = rw is at (away (m * up e) (down e) (n * up d) (down d) R k (down-pos e) (down-pos d) (part-more (cross m e d) (cross n d e) k (down e * down d) z h)) in
-      let G = most a (wholeSqrt a) g (square-root-of a) (lt-of-lt-of-le i f) in
+      let G = most squares a (wholeRoot square a) g (whole-root squares a) (lt-of-lt-of-le i f) in
       far-roots (fin false m e) (fin false n d) p q R c (omega arith) (lt-of-lt-of-le o (lit≤ tt)) .0)
       (λ l.
       let z : cross n d e ≤ cross m e d = ltb-false (cross m e d) (cross n d e) l in
       let c = rw is at (away (n * up d) (down d) (m * up e) (down e) R k (down-pos d) (down-pos e) (lt-of-le-of-lt (le-of-eq (sym (swap e d))) (part-back (cross m e d) (cross n d e) k (down e * down d) z h))) in
       let less : b < g * g = omega arith in
-      let G = most b (wholeSqrt b) g (square-root-of b) less in
+      let G = most squares b (wholeRoot square b) g (whole-root squares b) less in
       far-roots (fin false n d) (fin false m e) q p R c (omega arith) (lt-of-lt-of-le i w) .1)
 
 -- ---- for any two numbers

@@ -13,7 +13,7 @@ use lib.ListN.{length, getD, set, replicate, length-map}
 use lib.Seq.{sets, getD-set-same, getD-set-other, set-out}
 use Rattle.float.specs.Num.{_⊕_, _⊖_, _⊗_, _⊘_, infinity}
 use Rattle.float.specs.Number.{is-finite}
-use Rattle.root.specs.Root.{sqrt, sqrtAt}
+use Rattle.root.specs.Root.{sqrt}
 use Rattle.float.specs.Sine.{sin}
 use Rattle.linear.specs.Vector.{norm, _-ᵛ_}
 use Rattle.linear.specs.Matrix.{Matrix, part, row, apply, transpose, rodrigues, rot-unit, rot}
@@ -64,7 +64,7 @@ unfolding rodrigues
 rotation-nan k s c e = rw (e, nan-mul, nan-add, add-nan)
 
 norm-nan : (v : Vector3) → v .x ≡ nan → norm v ≡ nan
-unfolding norm sqrt sqrtAt
+unfolding norm sqrt
 norm-nan v h = rw (h, mul-nan, add-nan, add-nan)
 
 less-nan : (a b c d e : Float) → a ≡ nan → a ⊖ b ⊖ c ⊖ d ⊖ e ≡ nan

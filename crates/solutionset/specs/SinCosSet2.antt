@@ -1,8 +1,7 @@
--- solutionset.rs, SolutionSet2 of (sin, cos) pairs: the answers of subproblem3_sc and subproblem4_sc.
-use Prim.Native.Nat.{ℕ}
+-- solutionset.rs, SolutionSet2 of (sin, cos) pairs: the answers of subproblem3_sc and subproblem4_sc. Document 01: "Where an answer is an enum, a definition gives this paper's
+-- number and values for each of its cases."
 use mathlib.Core.List.{List, [], _∷_}
 use Rattle.float.specs.declared.sine.SinCos.{SinCos}
-use lib.ListN.{length}
 use Rattle.solutionset.specs.declared.SinCosSet2.{SinCosSet2}
 use Rattle.solutionset.specs.declared.SinCosSet2.the-variants.{Zero, One, Two}
 
@@ -10,6 +9,3 @@ abbrev pub get-all : SinCosSet2 → List SinCos
 get-all Zero = []
 get-all (One s) = s ∷ []
 get-all (Two s1 s2) = s1 ∷ s2 ∷ []
-
-abbrev pub size : SinCosSet2 → ℕ
-size s = length (get-all s)

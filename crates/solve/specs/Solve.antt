@@ -5,8 +5,9 @@ use mathlib.Core.Path.{_≡_}
 use mathlib.Core.Bool.{cond}
 use mathlib.Core.List.{List, []}
 use lib.Dec.{eqb}
-use lib.Ieee.{Float, binary64, ofBits}
+use lib.Ieee.{Float}
 use lib.ListN.{length}
+use Rattle.float.specs.Num.{millionth}
 use Rattle.linear.specs.Matrix.{Matrix}
 use Rattle.vector.specs.declared.Vector3.{Vector3}
 use Rattle.kinematics.specs.Kinematics.{from-numbers}
@@ -33,9 +34,9 @@ pub record Full : Type 0 where
 abbrev pub no-search : List Answer → Full
 no-search l = record { answers = l; evals = 0 }
 
--- 1e-6, by which subproblem1 flags
+-- the 1e-6 by which subproblem1 flags
 abbrev pub tolerance : Float
-tolerance = ofBits binary64 0x3eb0_c6f7_a0b5_ed8d
+tolerance = millionth
 
 -- "Families, with the reference function: 1 spherical_two_parallel, 2 spherical_two_intersecting, 3 spherical, 4 three_parallel_two_intersecting, 5 three_parallel,
 -- 6 two_parallel"

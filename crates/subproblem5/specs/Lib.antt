@@ -1,3 +1,3 @@
-pub mod Points
 pub mod Reduced
 pub mod Subproblem5
+pub mod Port

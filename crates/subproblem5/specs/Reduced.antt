@@ -1,11 +1,12 @@
 -- reduced_solutionset, within subproblem5 of subproblems/mod.rs: "Given n >= 4 solutions, return the top 4 most unique".
+-- "subproblem5 has up to 16 candidates; over four, they are sorted and thinned by gap as in reduced_solutionset. The second sort compares the ordering value first, then the triple." (document 01)
 use Prim.Native.Nat.{ℕ}
 use mathlib.Core.Bool.{cond}
 use mathlib.Core.List.{List, [], _∷_, map}
 use lib.Dec.{leb}
 use lib.Ieee.{Float}
 use lib.ListN.{length, take}
-use Rattle.float.specs.Num.{_⊖_, _⊗_, _⊘_, nought, one, infinity}
+use Rattle.float.specs.Num.{_⊖_, _⊗_, _⊘_, one, infinity}
 use Rattle.tripleset.specs.TripleSet4.{from-vec}
 use Rattle.tripleset.specs.declared.Triple.{Triple}
 use Rattle.tripleset.specs.declared.TripleSet4.{TripleSet4}
@@ -22,16 +23,10 @@ with-ordering last (solution ∷ solutions) =
 abbrev pub solution-of : Ordered → Triple
 solution-of o = o .solution
 
--- in the slots: a solution with the ordering value 0.0, and the loop over such
-abbrev pub unordered : Triple → Ordered
-unordered solution = record { ordering = nought; solution = solution }
-
-abbrev pub with-gaps : Float → List Ordered → List Ordered
-with-gaps last l = with-ordering last (map solution-of l)
-
 unfoldable pub reduced-solutionset : List Triple → TripleSet4
 unfolding with-ordering
 reduced-solutionset solutions =
     cond (leb (length solutions) 4) (from-vec solutions)
-    (let solutions-with-ordering = sort ordered-above (with-ordering infinity (sort triple-above solutions)) in
+    (let sorted = sort triple-above solutions .result in
+    let solutions-with-ordering = sort ordered-above (with-ordering infinity sorted) .result in
     from-vec (take 4 (map solution-of solutions-with-ordering)))

@@ -1,22 +1,17 @@
 -- subproblem5 of subproblems/mod.rs: "Solves for `theta1`, `theta2`, and `theta3` where `p0 + rot(k1, theta1) * p1 = rot(k2, theta2) * (p2 + rot(k3, theta3) * p3)` if possible.
--- There can be up to 4 solutions."
-use Prim.Native.Nat.{ℕ, _+_}
+-- There can be up to 4 solutions." Name by name as there; what the port has besides is in Port.antt.
 use mathlib.Core.Bool.{cond}
-use mathlib.Core.List.{List, [], _∷_, _++_, flatMap}
-use lib.Ieee.{Float, binary64, ofBits, lt, neg}
-use lib.ListN.{length, set}
-use Rattle.float.specs.Num.{_⊕_, _⊖_, _⊗_, _⊘_, nought, one}
+use mathlib.Core.List.{List, [], _∷_, flatMap}
+use lib.Ieee.{Float, lt, neg}
+use Rattle.float.specs.Num.{_⊕_, _⊖_, _⊗_, _⊘_, nought, one, millionth}
 use Rattle.float.specs.Number.{abs}
 use Rattle.float.specs.Arctangent.{atan2}
 use Rattle.float.specs.Root.{sqrt}
 use Rattle.linear.specs.Vector.{dot, norm, _+ᵛ_, _-ᵛ_, scaleᵛ}
 use Rattle.linear.specs.Matrix.{apply, outer}
 use Rattle.vector.specs.declared.Vector3.{Vector3}
-use Rattle.pairset.specs.Slots.{padded}
-use Rattle.tripleset.specs.TripleSet4.{none}
 use Rattle.tripleset.specs.declared.Triple.{Triple}
 use Rattle.tripleset.specs.declared.TripleSet4.{TripleSet4}
-use Rattle.tripleset.specs.declared.TripleSlots4.{TripleSlots4}
 use Rattle.polynomial.specs.Const.{four}
 use Rattle.convolution.specs.Convolution.{vec-self-convolve-2, vec-self-convolve-3, vec-convolve-3, cone-polynomials}
 use Rattle.quartic.specs.Quartic.{solve-quartic-roots}
@@ -26,154 +21,145 @@ use Rattle.convolution.specs.declared.Vector2.{Vector2}
 use Rattle.convolution.specs.declared.Vector5.{Vector5}
 use Rattle.subproblems.specs.Columns.{columns}
 use Rattle.subproblems.specs.Subproblem1.{subproblem1}
-use Rattle.subproblem5.specs.Reduced.{reduced-solutionset}
-use Rattle.subproblem5.specs.declared.Candidates.{Candidates}
-use Rattle.subproblem5.specs.declared.Circle.{Circle}
 use Rattle.subproblems.specs.declared.Columns.{Columns}
-use Rattle.subproblem5.specs.declared.Side.{Side}
-use Rattle.subproblem5.specs.declared.Sides.{Sides}
+use Rattle.subproblem5.specs.Reduced.{reduced-solutionset}
 
--- EPSILON, and the 1e-6 of the test on norms
-abbrev pub epsilon : Float
-epsilon = ofBits binary64 0x3eb0_c6f7_a0b5_ed8d
+-- ---- nalgebra's operations on Vector2, Vector5 and Matrix3x2: part by part, and "a matrix product's entry is a dot product" (document 01)
+infixl 6 _+²_
+infixl 6 _-²_
+infixl 7 _·²_
+abbrev pub _+²_ : Vector2 → Vector2 → Vector2
+a +² b = record { x = a .x ⊕ b .x; y = a .y ⊕ b .y }
 
--- ---- what does not depend on h. The first circle is of p0, p1 and k1, the second of p2, p3 and k3
+abbrev pub _-²_ : Vector2 → Vector2 → Vector2
+a -² b = record { x = a .x ⊖ b .x; y = a .y ⊖ b .y }
 
--- j * a.transpose() * k2, with j = Matrix2::new(0.0, 1.0, -1.0, 0.0): the product of j and the rows of a.transpose(), zeros and all, and then k2
-unfoldable pub j-apply : Columns → Vector3 → Vector2
-j-apply a k2 =
+abbrev pub _·²_ : Float → Vector2 → Vector2
+s ·² v = record { x = s ⊗ v .x; y = s ⊗ v .y }
+
+abbrev pub scale² : Vector2 → Float → Vector2
+scale² v s = record { x = v .x ⊗ s; y = v .y ⊗ s }
+
+abbrev pub over² : Vector2 → Float → Vector2
+over² v s = record { x = v .x ⊘ s; y = v .y ⊘ s }
+
+abbrev pub norm-squared² : Vector2 → Float
+norm-squared² v = v .x ⊗ v .x ⊕ v .y ⊗ v .y
+
+-- u - s * v
+abbrev pub less⁵ : Vector5 → Float → Vector5 → Vector5
+less⁵ u s v =
+    record {
+      a = u .a ⊖ s ⊗ v .a;
+      b = u .b ⊖ s ⊗ v .b;
+      c = u .c ⊖ s ⊗ v .c;
+      d = u .d ⊖ s ⊗ v .d;
+      e = u .e ⊖ s ⊗ v .e;
+    }
+
+-- a * sc
+abbrev pub times : Columns → Vector2 → Vector3
+times a sc =
     let u = a .first in
     let w = a .second in
-    record {
-      x = dot (record { x = nought ⊗ u .x ⊕ one ⊗ w .x; y = nought ⊗ u .y ⊕ one ⊗ w .y; z = nought ⊗ u .z ⊕ one ⊗ w .z }) k2;
-      y =
-          dot
-          (record {
-            x = neg one ⊗ u .x ⊕ nought ⊗ w .x;
-            y = neg one ⊗ u .y ⊕ nought ⊗ w .y;
-            z = neg one ⊗ u .z ⊕ nought ⊗ w .z;
-          })
-          k2;
-    }
+    record { x = u .x ⊗ sc .x ⊕ w .x ⊗ sc .y; y = u .y ⊗ sc .x ⊕ w .y ⊗ sc .y; z = u .z ⊗ sc .x ⊕ w .z ⊗ sc .y }
 
--- p1_s = p0 + k1 * k1.transpose() * p1, delta1 = k2.dot(&p1_s), a_1, and of a_1.transpose() * k2 itself, its norm squared and the product with j
-unfoldable pub circle : Vector3 → Vector3 → Vector3 → Vector3 → Circle
-unfolding j-apply
-circle p0 p k k2 =
-    let p-s = p0 +ᵛ apply (outer k k) p in
-    let a = columns k p in
-    let x = dot (a .first) k2 in
-    let y = dot (a .second) k2 in
-    record {
-      a = a;
-      «p_s» = p-s;
-      delta = dot k2 p-s;
-      «a_k2» = record { x = x; y = y };
-      «norm_sq» = x ⊗ x ⊕ y ⊗ y;
-      «j_a_k2» = j-apply a k2;
-    }
+-- a.transpose() * k2
+abbrev pub transpose-times : Columns → Vector3 → Vector2
+transpose-times a k2 = record { x = dot (a .first) k2; y = dot (a .second) k2 }
 
--- p_13 = p_1 - p_3, rhs = r_3 - r_1 - p_13_sq, eqn_real = vec_self_convolve_3(&rhs) - 4.0 * vec_convolve_3(&p_13_sq, &r_1)
+-- j * a.transpose() * k2 with j = Matrix2::new(0.0, 1.0, -1.0, 0.0), from the left: first the rows of j * a.transpose(), in which the zeros count, for infinities and signs
+unfoldable pub j-transpose-times : Columns → Vector3 → Vector2
+j-transpose-times a k2 =
+    let row : Float → Float → Vector3 =
+    λ s t.
+    record {
+      x = s ⊗ a .first .x ⊕ t ⊗ a .second .x;
+      y = s ⊗ a .first .y ⊕ t ⊗ a .second .y;
+      z = s ⊗ a .first .z ⊕ t ⊗ a .second .z;
+    } in
+    record { x = dot (row nought one) k2; y = dot (row (neg one) nought) k2 }
+
+-- ---- subproblem5, by its names
+-- EPSILON is 1e-6
+abbrev pub epsilon : Float
+epsilon = millionth
+
+-- of cone 1, which is (p_1, r_1), and cone 3, which is (p_3, r_3)
 unfoldable pub eqn-real : Cone → Cone → Vector5
-eqn-real c1 c3 =
-    let p-13-sq = vec-self-convolve-2 (record { x = c1 .p .x ⊖ c3 .p .x; y = c1 .p .y ⊖ c3 .p .y }) in
-    let rhs = c3 .r -ᵛ c1 .r -ᵛ p-13-sq in
-    let u = vec-self-convolve-3 rhs in
-    let v = vec-convolve-3 p-13-sq (c1 .r) in
-    record {
-      a = u .a ⊖ four ⊗ v .a;
-      b = u .b ⊖ four ⊗ v .b;
-      c = u .c ⊖ four ⊗ v .c;
-      d = u .d ⊖ four ⊗ v .d;
-      e = u .e ⊖ four ⊗ v .e;
-    }
+eqn-real cone-1 cone-3 =
+    let p-13 = cone-1 .p -² cone-3 .p in
+    let p-13-sq = vec-self-convolve-2 p-13 in
+    let rhs = cone-3 .r -ᵛ cone-1 .r -ᵛ p-13-sq in
+    less⁵ (vec-self-convolve-3 rhs) four (vec-convolve-3 p-13-sq (cone-1 .r))
 
--- h_vec: .filter(|c| c.im.abs() < EPSILON).map(|c| c.re)
+-- all_roots, .filter(|c| c.im.abs() < EPSILON).map(|c| c.re)
 unfoldable pub h-vec : Cone → Cone → List Float
 unfolding eqn-real
-h-vec c1 c3 = real-parts epsilon (roots (solve-quartic-roots (real-quartic (eqn-real c1 c3))))
+h-vec cone-1 cone-3 = real-parts epsilon (roots (solve-quartic-roots (real-quartic (eqn-real cone-1 cone-3))))
 
--- ---- of one h
--- sq1 = (a_1.transpose() * k2).norm_squared() - hd1 * hd1, with hd1 = h - delta1
-abbrev pub sq : Circle → Float → Float
-sq c h = let hd = h ⊖ c .delta in c .«norm_sq» ⊖ hd ⊗ hd
+-- signs_1.iter().zip(signs_3.iter())
+abbrev pub signs : List (Float × Float)
+signs = (one, one) ∷ (one, neg one) ∷ (neg one, one) ∷ (neg one, neg one) ∷ []
 
--- sc1 = (const_1 + sign_1 * pm_1) / (a_1.transpose() * k2).norm_squared()
-abbrev pub sc-of : Circle → Vector2 → Vector2 → Float → Vector2
-sc-of c const pm sign =
-    record { x = (const .x ⊕ sign ⊗ pm .x) ⊘ c .«norm_sq»; y = (const .y ⊕ sign ⊗ pm .y) ⊘ c .«norm_sq» }
+module _ (p0 p1 p2 p3 k1 k2 k3 : Vector3) where
+  abbrev p1-s : Vector3
+  p1-s = p0 +ᵛ apply (outer k1 k1) p1
 
--- v1 = a_1 * sc1 + p1_s
-abbrev pub v-of : Circle → Vector2 → Vector3
-v-of c sc =
-    let u = c .a .first in
-    let w = c .a .second in
-    record {
-      x = u .x ⊗ sc .x ⊕ w .x ⊗ sc .y ⊕ c .«p_s» .x;
-      y = u .y ⊗ sc .x ⊕ w .y ⊗ sc .y ⊕ c .«p_s» .y;
-      z = u .z ⊗ sc .x ⊕ w .z ⊗ sc .y ⊕ c .«p_s» .z;
-    }
+  abbrev p3-s : Vector3
+  p3-s = p2 +ᵛ apply (outer k3 k3) p3
 
--- of one sign: sc1, v1 and (v1 - h * k2).norm()
-unfoldable pub side : Circle → Vector2 → Vector2 → Vector3 → Float → Side
-side c const pm hk2 sign =
-    let sc = sc-of c const pm sign in
-    let v = v-of c sc in
-    record { sc = sc; v = v; distance = norm (v -ᵛ hk2) }
+  abbrev delta1 : Float
+  delta1 = dot k2 p1-s
 
--- const_1 = a_1.transpose() * k2 * (h - delta1), pm_1 = j * a_1.transpose() * k2 * sq1.sqrt(), and both signs
-unfoldable pub sides : Circle → Float → Float → Vector3 → Sides
-unfolding side
-sides c h square hk2 =
-    let hd = h ⊖ c .delta in
-    let root = sqrt square in
-    let const : Vector2 = record { x = c .«a_k2» .x ⊗ hd; y = c .«a_k2» .y ⊗ hd } in
-    let pm : Vector2 = record { x = c .«j_a_k2» .x ⊗ root; y = c .«j_a_k2» .y ⊗ root } in
-    record { plus = side c const pm hk2 one; minus = side c const pm hk2 (neg one) }
+  abbrev delta3 : Float
+  delta3 = dot k2 p3-s
 
--- (sc1[0].atan2(sc1[1]), theta2_value, sc3[0].atan2(sc3[1])), with theta2_value of subproblem1(&v3, &v1, k2)
-unfoldable pub angles : Vector3 → Side → Side → Triple
-angles k2 s1 s3 =
-    record {
-      first = atan2 (s1 .sc .x) (s1 .sc .y);
-      second = subproblem1 (s3 .v) (s1 .v) k2 .theta;
-      third = atan2 (s3 .sc .x) (s3 .sc .y);
-    }
+  abbrev a-1 : Columns
+  a-1 = columns k1 p1
 
--- the candidate of two signs, where the norms differ by less than 1e-6
-unfoldable pub candidate : Vector3 → Side → Side → List Triple
-unfolding angles
-candidate k2 s1 s3 = cond (lt (abs (s1 .distance ⊖ s3 .distance)) epsilon) (angles k2 s1 s3 ∷ []) []
+  abbrev a-3 : Columns
+  a-3 = columns k3 p3
 
--- signs_1 = [1.0, 1.0, -1.0, -1.0], signs_3 = [1.0, -1.0, 1.0, -1.0]
-unfoldable pub signed : Vector3 → Sides → Sides → List Triple
-unfolding candidate
-signed k2 s1 s3 =
-    candidate k2 (s1 .plus) (s3 .plus)
-    ++ candidate k2 (s1 .plus) (s3 .minus)
-    ++ candidate k2 (s1 .minus) (s3 .plus)
-    ++ candidate k2 (s1 .minus) (s3 .minus)
+  -- for &h in h_vec.into_iter()
+  module _ (h : Float) where
+    abbrev const-1 : Vector2
+    const-1 = scale² (transpose-times a-1 k2) (h ⊖ delta1)
 
-unfoldable pub at-root : Circle → Circle → Vector3 → Float → List Triple
-unfolding signed sides
-at-root c1 c3 k2 h =
-    let hk2 = scaleᵛ k2 h in
-    cond (lt (sq c1 h) nought) [] (cond (lt (sq c3 h) nought) [] (signed k2 (sides c1 h (sq c1 h) hk2) (sides c3 h (sq c3 h) hk2)))
+    abbrev const-3 : Vector2
+    const-3 = scale² (transpose-times a-3 k2) (h ⊖ delta3)
 
--- ---- the whole
--- in the port's slots: a list of at most one after those that stand there, and a list of at most sixteen. An unused slot holds zeros
-abbrev pub pushed : TripleSlots4 → List Triple → TripleSlots4
-pushed found [] = found
-pushed found (t ∷ l) = record { slots = set (found .slots) (found .count) t; count = found .count + 1 }
+    abbrev sq1 : Float
+    sq1 = let hd1 = h ⊖ delta1 in norm-squared² (transpose-times a-1 k2) ⊖ hd1 ⊗ hd1
 
-abbrev pub in-sixteen : List Triple → Candidates
-in-sixteen l = record { slots = padded 16 none l; count = length l }
+    abbrev sq3 : Float
+    sq3 = let hd3 = h ⊖ delta3 in norm-squared² (transpose-times a-3 k2) ⊖ hd3 ⊗ hd3
 
-unfoldable pub subproblem5 : Vector3 → Vector3 → Vector3 → Vector3 → Vector3 → Vector3 → Vector3 → TripleSet4
-unfolding circle h-vec at-root
-subproblem5 p0 p1 p2 p3 k1 k2 k3 =
-    let c1 = circle p0 p1 k1 k2 in
-    let c3 = circle p2 p3 k3 k2 in
-    let cone1 = cone-polynomials p0 k1 p1 (c1 .«p_s») k2 in
-    let cone3 = cone-polynomials p2 k3 p3 (c3 .«p_s») k2 in
-    reduced-solutionset (flatMap (at-root c1 c3 k2) (h-vec cone1 cone3))
+    abbrev pm-1 : Vector2
+    pm-1 = scale² (j-transpose-times a-1 k2) (sqrt sq1)
+
+    abbrev pm-3 : Vector2
+    pm-3 = scale² (j-transpose-times a-3 k2) (sqrt sq3)
+
+    -- for (&sign_1, &sign_3): a candidate, or none
+    abbrev of-signs : Float × Float → List Triple
+    of-signs sign =
+        let sc1 = over² (const-1 +² sign .0 ·² pm-1) (norm-squared² (transpose-times a-1 k2)) in
+        let sc3 = over² (const-3 +² sign .1 ·² pm-3) (norm-squared² (transpose-times a-3 k2)) in
+        let v1 = times a-1 sc1 +ᵛ p1-s in
+        let v3 = times a-3 sc3 +ᵛ p3-s in
+        cond (lt (abs (norm (v1 -ᵛ scaleᵛ k2 h) ⊖ norm (v3 -ᵛ scaleᵛ k2 h))) millionth)
+        (record { first = atan2 (sc1 .x) (sc1 .y); second = subproblem1 v3 v1 k2 .theta; third = atan2 (sc3 .x) (sc3 .y) } ∷ [])
+        []
+
+    -- if sq1 < 0.0 or sq3 < 0.0: continue
+    abbrev of-root : List Triple
+    of-root = cond (lt sq1 nought) [] (cond (lt sq3 nought) [] (flatMap of-signs signs))
+
+  -- "subproblem5 has up to 16 candidates; over four, they are sorted and thinned by gap as in reduced_solutionset." (document 01)
+  unfoldable pub subproblem5 : TripleSet4
+  unfolding h-vec j-transpose-times
+  subproblem5 =
+      let cone-1 = cone-polynomials p0 k1 p1 p1-s k2 in
+      let cone-3 = cone-polynomials p2 k3 p3 p3-s k2 in
+      reduced-solutionset (flatMap of-root (h-vec cone-1 cone-3))

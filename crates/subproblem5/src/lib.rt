@@ -10,8 +10,8 @@ pub use sp5::subproblem5;
 use subproblems::Columns;
 use tripleset::Triple;
 
-// A circle of subproblem 5: the turned vector is a times (sine, cosine), from p_s on. With a_k2 the
-// products of its columns and k2, norm_sq the square of their norm, and j_a_k2 the same turned.
+// A circle of subproblem 5: p_s and a times the sine and the cosine. With delta its height along k2,
+// a_k2 the products of a's columns and k2, norm_sq the square of their norm, and j_a_k2 these times j.
 pub struct Circle {
     pub a: Columns,
     pub p_s: Vector3,
@@ -21,25 +21,14 @@ pub struct Circle {
     pub j_a_k2: Vector2,
 }
 
-// A point of a circle: its sine and cosine, the point, and its distance from the axis k2. The
-// definitions speak of these; the code holds the square of the distance, as below.
-pub struct Side {
-    pub sc: Vector2,
-    pub v: Vector3,
-    pub distance: f64,
-}
-
-pub struct Sides {
-    pub plus: Side,
-    pub minus: Side,
-}
-
+// A point of a circle: its sine and cosine, the point, and the square of its distance from h * k2.
 pub struct Point {
     pub sc: Vector2,
     pub v: Vector3,
     pub distance_sq: f64,
 }
 
+// The points of both signs.
 pub struct Points {
     pub plus: Point,
     pub minus: Point,

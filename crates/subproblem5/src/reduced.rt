@@ -9,8 +9,9 @@ ghost use Prim.Native.Nat.{_≤_};
 ghost use lib.ListN.{take};
 ghost use Rattle.float.specs.Num.{infinity};
 ghost use Rattle.tripleset.specs.TripleSet4.{from-vec};
-ghost use Rattle.triple_sort.specs.Sort.{at-front};
-ghost use Rattle.subproblem5.specs.Reduced.{solution-of, unordered, with-gaps, reduced-solutionset};
+ghost use Rattle.triple_sort.specs.Port.{at-front};
+ghost use Rattle.subproblem5.specs.Port.{unordered, with-gaps};
+ghost use Rattle.subproblem5.specs.Reduced.{solution-of, reduced-solutionset};
 
 // The first n solutions, with one ordering value for all: as such they sort by the triple alone.
 fn unordered(solutions: [Triple; 16], n: usize) -> [Ordered; 16]

@@ -18,16 +18,16 @@ use tripleset::TripleSet4;
 use tripleset::TripleSlots4;
 ghost use mathlib.Core.Path.{_≡_};
 ghost use mathlib.Core.List.{[], flatMap};
-ghost use Prim.Native.Nat.{_<_, _≤_};
+ghost use Prim.Native.Nat.{_+_, _<_, _≤_};
 ghost use lib.ListN.{take};
 ghost use Rattle.solutionset.specs.SolutionSet4 as floats;
 ghost use Rattle.tripleset.specs.TripleSet4.{slots};
-ghost use Rattle.subproblem5.specs.Points.{side-of, sides-of};
-ghost use Rattle.subproblem5.specs.Subproblem5.{j-apply, circle, eqn-real, h-vec, sq, side, sides, angles, candidate, signed, at-root, pushed, in-sixteen, subproblem5};
+ghost use Rattle.subproblem5.specs.Port.{circle, sq, point, points, angles, agree, of-points, at-root, pushed, in-sixteen};
+ghost use Rattle.subproblem5.specs.Subproblem5.{j-transpose-times, eqn-real, h-vec, subproblem5};
 
-// A quarter turn of the transposed matrix, times k2: the zeros count, for infinities and signs.
-fn j_apply(a: Columns, k2: Vector3) -> Vector2
-    ensures { λ r. ⌜ r ≡ j-apply a k2 ⌝ }
+// j times the transposed matrix, times k2: the zeros count, for infinities and signs.
+fn j_transpose_times(a: Columns, k2: Vector3) -> Vector2
+    ensures { λ r. ⌜ r ≡ j-transpose-times a k2 ⌝ }
 {
     let u = a.first;
     let w = a.second;
@@ -56,7 +56,7 @@ fn circle(p0: Vector3, p: Vector3, k: Vector3, k2: Vector3) -> Circle
     let x = linear::dot(a.first, k2);
     let y = linear::dot(a.second, k2);
     let delta = linear::dot(k2, p_s);
-    let j_a_k2 = j_apply(a, k2);
+    let j_a_k2 = j_transpose_times(a, k2);
     Circle {
         a,
         p_s,
@@ -106,9 +106,9 @@ fn sq(c: Circle, h: f64) -> f64
     c.norm_sq - hd * hd
 }
 
-// The point of a circle at the height of hk2, on one side of it.
-fn side(c: Circle, middle: Vector2, pm: Vector2, hk2: Vector3, sign: f64) -> Point
-    ensures { λ r. ⌜ side-of r ≡ side c middle pm hk2 sign ⌝ }
+// The point of a circle at the height of hk2, of one sign.
+fn point(c: Circle, middle: Vector2, pm: Vector2, hk2: Vector3, sign: f64) -> Point
+    ensures { λ r. ⌜ r ≡ point c middle pm hk2 sign ⌝ }
 {
     let a = c.a;
     let p_s = c.p_s;
@@ -130,8 +130,8 @@ fn side(c: Circle, middle: Vector2, pm: Vector2, hk2: Vector3, sign: f64) -> Poi
 }
 
 // Both points of a circle at the height h.
-fn sides(c: Circle, h: f64, square: f64, hk2: Vector3) -> Points
-    ensures { λ r. ⌜ sides-of r ≡ sides c h square hk2 ⌝ }
+fn points(c: Circle, h: f64, square: f64, hk2: Vector3) -> Points
+    ensures { λ r. ⌜ r ≡ points c h square hk2 ⌝ }
 {
     let hd = h - c.delta;
     let root = float::sqrt(square);
@@ -146,18 +146,18 @@ fn sides(c: Circle, h: f64, square: f64, hk2: Vector3) -> Points
         y: j_a_k2.y * root,
     };
     Points {
-        plus: side(c, middle, pm, hk2, 1.0),
-        minus: side(c, middle, pm, hk2, -1.0),
+        plus: point(c, middle, pm, hk2, 1.0),
+        minus: point(c, middle, pm, hk2, -1.0),
     }
 }
 
-fn angles(k2: Vector3, s1: Point, s3: Point) -> Triple
-    ensures { λ r. ⌜ r ≡ angles k2 (side-of s1) (side-of s3) ⌝ }
+fn angles(k2: Vector3, q1: Point, q3: Point) -> Triple
+    ensures { λ r. ⌜ r ≡ angles k2 q1 q3 ⌝ }
 {
-    let sc1 = s1.sc;
-    let sc3 = s3.sc;
-    let v1 = s1.v;
-    let v3 = s3.v;
+    let sc1 = q1.sc;
+    let sc3 = q3.sc;
+    let v1 = q1.v;
+    let v3 = q3.v;
     Triple {
         first: float::atan2(sc1.x, sc1.y),
         second: subproblem1_theta(v3, v1, k2),
@@ -166,14 +166,14 @@ fn angles(k2: Vector3, s1: Point, s3: Point) -> Triple
 }
 
 // The candidate of two points, after those found before it.
-fn push(found: TripleSlots4, k2: Vector3, s1: Point, s3: Point) -> TripleSlots4
+fn push(found: TripleSlots4, k2: Vector3, q1: Point, q3: Point) -> TripleSlots4
     requires { ⌜ found .count < 4 ⌝ }
-    ensures { λ r. ⌜ r ≡ pushed found (candidate k2 (side-of s1) (side-of s3)) ⌝ }
+    ensures { λ r. ⌜ (r ≡ pushed found (agree q1 q3) (angles k2 q1 q3)) × (r .count ≤ found .count + 1) ⌝ }
 {
-    if norms_agree(s1.distance_sq, s3.distance_sq) {
+    if norms_agree(q1.distance_sq, q3.distance_sq) {
         let mut slots = found.slots;
         let n = found.count;
-        slots[n] = angles(k2, s1, s3);
+        slots[n] = angles(k2, q1, q3);
         let count = n + 1;
         return TripleSlots4 { slots, count };
     }
@@ -181,7 +181,7 @@ fn push(found: TripleSlots4, k2: Vector3, s1: Point, s3: Point) -> TripleSlots4
 }
 
 fn no_candidates() -> TripleSlots4
-    ensures { λ r. ⌜ r ≡ slots [] ⌝ }
+    ensures { λ r. ⌜ (r ≡ slots []) × (r .count ≡ 0) ⌝ }
 {
     let none = Triple {
         first: 0.0,
@@ -195,23 +195,23 @@ fn no_candidates() -> TripleSlots4
 }
 
 // The candidates of the points of two circles, the signs of the first going slower.
-fn signed(k2: Vector3, s1: Points, s3: Points) -> TripleSlots4
-    ensures { λ r. ⌜ r ≡ slots (signed k2 (sides-of s1) (sides-of s3)) ⌝ }
+fn of_points(k2: Vector3, s1: Points, s3: Points) -> TripleSlots4
+    ensures { λ r. ⌜ (r ≡ slots (of-points k2 s1 s3)) × (r .count ≤ 4) ⌝ }
 {
     let plus1 = s1.plus;
     let minus1 = s1.minus;
     let plus3 = s3.plus;
     let minus3 = s3.minus;
     let none = no_candidates();
-    let one = push(none, k2, plus1, plus3);
-    let two = push(one, k2, plus1, minus3);
-    let three = push(two, k2, minus1, plus3);
-    push(three, k2, minus1, minus3)
+    let after1 = push(none, k2, plus1, plus3);
+    let after2 = push(after1, k2, plus1, minus3);
+    let after3 = push(after2, k2, minus1, plus3);
+    push(after3, k2, minus1, minus3)
 }
 
 // The candidates at the height h.
 fn at_root(c1: Circle, c3: Circle, k2: Vector3, h: f64) -> TripleSlots4
-    ensures { λ r. ⌜ r ≡ slots (at-root c1 c3 k2 h) ⌝ }
+    ensures { λ r. ⌜ (r ≡ slots (at-root c1 c3 k2 h)) × (r .count ≤ 4) ⌝ }
 {
     let sq1 = sq(c1, h);
     if sq1 < 0.0 {
@@ -222,7 +222,7 @@ fn at_root(c1: Circle, c3: Circle, k2: Vector3, h: f64) -> TripleSlots4
         return no_candidates();
     }
     let hk2 = linear::scale(k2, h);
-    signed(k2, sides(c1, h, sq1, hk2), sides(c3, h, sq3, hk2))
+    of_points(k2, points(c1, h, sq1, hk2), points(c3, h, sq3, hk2))
 }
 
 // The candidates at each height. Those of a height go in with their unused slots, which the next

@@ -31,7 +31,7 @@ unfoldable pub entry : Float → Vector3 → Vector3 → Vector3 → Vector3 →
 entry d hi ki pi hj kj pj = d ⊖ along hi ki pi ⊖ along hj kj pj
 
 -- the solutions of the two equations: x_min = q * solve_lower_triangular_system_2x2(&r, &b) over the first two columns of Q, with r = qr.r().transpose(),
--- and the null vectors, which are the last two
+-- and "The last two columns of Q are the null vectors." (document 01)
 unfoldable pub plane : Vector4 → Vector4 → Vector2 → Plane
 plane a0 a1 b =
     let f = qr a0 a1 in

@@ -2,15 +2,17 @@
 -- Also returns a boolean of whether or not `theta` is a least-squares solution." The angle and the flag are apart, and the flag's 1e-6 is a parameter.
 use mathlib.Core.Bool.{Bool, _||_}
 use lib.Ieee.{Float, lt}
-use Rattle.float.specs.Num.{_⊖_}
+use Rattle.float.specs.Num.{_⊖_, millionth}
 use Rattle.float.specs.Number.{abs}
 use Rattle.float.specs.Arctangent.{atan2}
 use Rattle.linear.specs.Vector.{dot, norm}
 use Rattle.vector.specs.declared.Vector3.{Vector3}
--- 1e-6
-pub use Rattle.norms.specs.Norms.{tolerance}
 use Rattle.subproblems.specs.Columns.{columns}
 use Rattle.subproblems.specs.declared.Solved1.{Solved1}
+
+-- the flag's 1e-6
+abbrev pub tolerance : Float
+tolerance = millionth
 
 -- theta: x = a.transpose() * p2, x[0].atan2(x[1])
 unfoldable pub subproblem1-theta : Vector3 → Vector3 → Vector3 → Float

@@ -6,15 +6,16 @@ use mathlib.Core.Bool.{Bool, true, false, cond}
 use mathlib.Core.List.{List, [], _∷_, _++_, map}
 use lib.ListN.{length, getD, set, take, drop, length-append, length-take, length-drop, length-map}
 use lib.Seq.{length-take-le, take-at, drop-at}
-use Rattle.triple_sort.specs.Sort.{at-front, carry, pass, passes, sort}
-use Rattle.triple_sort.proofs.NumberOrder.{by-test}
+use Rattle.triple_sort.specs.Port.{at-front, in-order}
+use Rattle.triple_sort.specs.Sort.{carry, pass, passes, sort}
+use Rattle.scalar.proofs.Order.{by-test}
 
-module _ {A : Type 0} (above : A → A → Bool) (none : A) where
+module _ {A : Type 0} (above : A → A → Bool) (outside : A) where
   -- the members at i and after it, exchanged if the earlier is above the later
   unfoldable pub exchange-at : ℕ → List A → List A
   exchange-at i t =
-      let a = getD t i none in
-      let b = getD t (suc i) none in
+      let a = getD t i outside in
+      let b = getD t (suc i) outside in
       cond (above a b) (set (set t i b) (suc i) a) t
 
   -- so at k places from i on
@@ -24,7 +25,7 @@ module _ {A : Type 0} (above : A → A → Bool) (none : A) where
 
   exchange-after : (i : ℕ) (x : A) (t : List A) → exchange-at (suc i) (x ∷ t) ≡ x ∷ exchange-at i t
   unfolding exchange-at
-  exchange-after i x t = by-test (above (getD t i none) (getD t (suc i) none)) (λ e. simp e) (λ e. simp e)
+  exchange-after i x t = by-test (above (getD t i outside) (getD t (suc i) outside)) (λ e. simp e) (λ e. simp e)
 
   pass-after : (k i : ℕ) (x : A) (t : List A) → pass-from k (suc i) (x ∷ t) ≡ x ∷ pass-from k i t
   unfolding pass-from
@@ -63,7 +64,7 @@ module _ {A : Type 0} (above : A → A → Bool) where
   length-passes zero l = refl
   length-passes (suc k) l = length-passes k (pass above l) ∙ length-pass l
 
-  pub length-sort : (l : List A) → length (sort above l) ≡ length l
+  pub length-sort : (l : List A) → length (in-order above l) ≡ length l
   unfolding sort
   length-sort l = length-passes (length l - 1) l
 
@@ -104,6 +105,6 @@ module _ {A B : Type 0} (f : B → A) (above : A → A → Bool) (under : B → 
   passes-map zero l = refl
   passes-map (suc k) l = rw (pass-map l) (passes-map k (pass under l))
 
-  pub sort-map : (l : List B) → sort above (map f l) ≡ map f (sort under l)
+  pub sort-map : (l : List B) → in-order above (map f l) ≡ map f (in-order under l)
   unfolding sort
   sort-map l = rw (length-map l f) (passes-map (length l - 1) l)

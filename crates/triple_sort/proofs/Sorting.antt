@@ -10,7 +10,8 @@ use Rattle.tripleset.specs.declared.Triple.{Triple}
 use Rattle.triple_sort.specs.Sort.{triple-above, ordered-above, carry, pass, passes, sort}
 use Rattle.triple_sort.specs.Sorted.{Orders, Every, Sorted, Permuted, none, after, exchange, then, those, level, Sorts, Sort-sorts, First-sort-sorts, Second-sort-sorts}
 use Rattle.triple_sort.specs.declared.Ordered.{Ordered}
-use Rattle.triple_sort.proofs.NumberOrder.{by-test, triple-orders, ordered-orders}
+use Rattle.scalar.proofs.Order.{by-test}
+use Rattle.triple_sort.proofs.NumberOrder.{triple-orders, ordered-orders}
 
 module _ {A : Type 0} where
   every-and : (p q : A → Type 0) (l : List A) → Every p l → Every q l → Every (λ x. p x × q x) l

@@ -3,9 +3,9 @@
 -- "The second sort compares the ordering value first, then the triple." -0.0 and 0.0 are equal.
 use Prim.Native.Nat.{ℕ, zero, suc, _-_}
 use mathlib.Core.Bool.{Bool, true, false, cond, not}
-use mathlib.Core.List.{List, [], _∷_, _++_}
+use mathlib.Core.List.{List, [], _∷_}
 use lib.Ieee.{Float, lt, isNan}
-use lib.ListN.{length, take, drop}
+use lib.ListN.{length}
 use Rattle.tripleset.specs.declared.Triple.{Triple}
 use Rattle.triple_sort.specs.declared.Ordered.{Ordered}
 
@@ -26,9 +26,9 @@ unfoldable pub ordered-above : Ordered → Ordered → Bool
 unfolding triple-above
 ordered-above a b = then-by (a .ordering) (b .ordering) (triple-above (a .solution) (b .solution))
 
--- f of the first n slots; what stands in the others stays
-abbrev pub at-front : {A : Type 0} → ℕ → (List A → List A) → List A → List A
-at-front n f l = f (take n l) ++ drop n l
+-- what a sort gives
+pub record SortOf (A : Type 0) : Type 0 where
+  pub result : List A
 
 module _ {A : Type 0} (above : A → A → Bool) where
   -- a pass goes over neighbours from the first to the last, and exchanges two exactly if the earlier compares above the later:
@@ -48,6 +48,6 @@ module _ {A : Type 0} (above : A → A → Bool) where
   passes (suc k) l = passes k (pass l)
 
   -- one pass fewer than there are members
-  unfoldable pub sort : List A → List A
+  unfoldable pub sort : List A → SortOf A
   unfolding passes
-  sort l = passes (length l - 1) l
+  sort l = record { result = passes (length l - 1) l }

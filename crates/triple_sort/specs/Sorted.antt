@@ -46,10 +46,10 @@ module _ {A : Type 0} where
 
 -- the theorem, and its two uses in reduced_solutionset
 abbrev pub Sort-sorts : Type 1
-Sort-sorts = (A : Type 0) (above : A → A → Bool) → Orders above → (l : List A) → Sorts above l (sort above l)
+Sort-sorts = (A : Type 0) (above : A → A → Bool) → Orders above → (l : List A) → Sorts above l (sort above l .result)
 
 abbrev pub First-sort-sorts : Type 0
-First-sort-sorts = (l : List Triple) → Sorts triple-above l (sort triple-above l)
+First-sort-sorts = (l : List Triple) → Sorts triple-above l (sort triple-above l .result)
 
 abbrev pub Second-sort-sorts : Type 0
-Second-sort-sorts = (l : List Ordered) → Sorts ordered-above l (sort ordered-above l)
+Second-sort-sorts = (l : List Ordered) → Sorts ordered-above l (sort ordered-above l .result)

@@ -2,7 +2,8 @@
 use tripleset::Triple;
 ghost use mathlib.Core.Path.{_≡_};
 ghost use Prim.Native.Nat.{_≤_};
-ghost use Rattle.triple_sort.specs.Sort.{number-above, triple-above, ordered-above, at-front, pass, sort};
+ghost use Rattle.triple_sort.specs.Port.{at-front, in-order};
+ghost use Rattle.triple_sort.specs.Sort.{number-above, triple-above, ordered-above, pass};
 
 // A candidate of subproblem 5 with the number that decides whether it is kept.
 pub struct Ordered {
@@ -71,7 +72,7 @@ fn pass(given: [Ordered; 16], n: usize) -> [Ordered; 16]
 // The first n in order, equals in the order in which they came.
 pub fn sort(given: [Ordered; 16], n: usize) -> [Ordered; 16]
     requires { ⌜ n ≤ 16 ⌝ }
-    ensures { λ r. ⌜ r ≡ at-front n (sort ordered-above) given ⌝ }
+    ensures { λ r. ⌜ r ≡ at-front n (in-order ordered-above) given ⌝ }
 {
     let mut t = given;
     let mut k: usize = 1;

@@ -1,4 +1,4 @@
--- solutionset.rs, SolutionSet4 of triples of angles: the answers of subproblem5.
+-- solutionset.rs, SolutionSet4 of triples of angles: the solutions of subproblem5.
 use Prim.Native.Nat.{ℕ, _≤_}
 use mathlib.Core.List.{List, [], _∷_}
 use native.Mathlib.Omega.{arith}
@@ -31,7 +31,7 @@ few (Four s1 s2 s3 s4) = omega arith
 abbrev pub none : Triple
 none = record { first = nought; second = nought; third = nought }
 
--- the answer with the number i, of those that there are
+-- the solution with the number i, of those that there are
 abbrev pub at : TripleSet4 → ℕ → Triple
 at s i = getD (get-all s) i none
 

@@ -10,7 +10,7 @@ pub struct Triple {
     pub third: f64,
 }
 
-// The answers of a set in slots, and their number. A slot past the last answer holds 0.0.
+// The solutions of a set in slots, and their number. A slot past the last solution holds 0.0.
 pub struct TripleSlots4 {
     pub slots: [Triple; 4],
     pub count: usize,
@@ -25,7 +25,7 @@ pub enum TripleSet4 {
 }
 
 impl TripleSet4 {
-    // The answers, in slots with their number.
+    // The solutions, in slots with their number.
     pub fn get_all(self) -> TripleSlots4
         ensures { λ r. ⌜ r ≡ TripleSet4s.slots (TripleSet4s.get-all self) ⌝ }
     {
@@ -58,7 +58,7 @@ impl TripleSet4 {
         }
     }
 
-    // The answer with the number i.
+    // The solution with the number i.
     pub fn at(self, i: usize) -> Triple
         requires { ⌜ i < TripleSet4s.size self ⌝ }
         ensures { λ r. ⌜ r ≡ TripleSet4s.at self i ⌝ }

@@ -1,4 +1,4 @@
--- The answers of family 6 from what the search computes once: the axes normalised, the negations, p_16 (search_error: specs/Given.antt). proofs/Once.antt shows that they are the same.
+-- The answers of family 6 from what the search computes once: the axes normalised, the negations, p_16 (search_error: specs/Given.antt). two_parallel: proofs/Once.antt shows that they are those of its definition.
 use mathlib.Core.Bool.{_||_}
 use lib.Ieee.{Float}
 use Rattle.float.specs.Num.{_⊖_}

@@ -9,6 +9,7 @@ use {
         arith::Arith,
         complex::Complex,
         linalg::{qr, Matrix2, Matrix2x4, Matrix3x2, Qr, Vector2, Vector3, Vector4},
+        nalgebra,
         solutionset::{SolutionSet2, SolutionSet4},
     },
     auxiliary::{
@@ -414,7 +415,11 @@ pub fn subproblem6<A: Arith>(
             - (h[3].transpose() * k[3] * k[3].transpose() * p[3])[0],
     );
 
-    let Qr { q, r } = qr(&a.transpose());
+    let Qr { q, r } = if A::NALGEBRA_QR {
+        nalgebra::qr(&a.transpose())
+    } else {
+        qr(&a.transpose())
+    };
 
     let (x_null_1, x_null_2): (Vector4, Vector4) = (q.column(2), q.column(3));
     let q = q.fixed_columns::<2>(0);

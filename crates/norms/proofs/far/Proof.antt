@@ -4,8 +4,8 @@ use mathlib.Core.Bool.{Bool, true, false, false≢true}
 use lib.Ieee.{Float, lt}
 use Rattle.float.specs.Num.{_⊖_, nought, one}
 use Rattle.float.specs.Number.{abs}
-use Rattle.norms.specs.Norms.{Far, two^-17, two^-7, two^20, two^60}
-use Rattle.norms.proofs.RootGap.{far-small, far-large}
+use Rattle.norms.specs.Norms.{Far}
+use Rattle.norms.proofs.RootGap.{two^-17, two^-7, two^20, two^60, far-small, far-large}
 use Rattle.norms.proofs.far.Statement.{statement}
 use Rattle.norms.proofs.far.Tie as tie
 

@@ -4,8 +4,8 @@ use mathlib.Core.Bool.{Bool, true, false, false≢true}
 use lib.Ieee.{Float, lt}
 use Rattle.float.specs.Num.{_⊖_, nought, one}
 use Rattle.float.specs.Number.{abs}
-use Rattle.norms.specs.Norms.{Near, two^-42, two^-21, two^60}
-use Rattle.norms.proofs.RootGap.{near-small, near-large}
+use Rattle.norms.specs.Norms.{Near}
+use Rattle.norms.proofs.RootGap.{two^-42, two^-21, two^60, near-small, near-large}
 use Rattle.norms.proofs.near.Statement.{statement}
 use Rattle.norms.proofs.near.Tie as tie
 

@@ -17,12 +17,6 @@ close a b tolerance h t u = sym (near-not-above (abs (sqrt a ⊖ sqrt b)) (h t) 
 returns : tie.Need-returns
 returns c = search close
 
-returns-2 : tie.Need-returns-2
-returns-2 c = search needs
-
-returns-3 : tie.Need-returns-3
-returns-3 c = search needs
-
 pub norms-differ-spec : {M : Type 1} → statement M
 norms-differ-spec =
-    tie.close (tie.spec (λ _ _. tt) returns (λ _ _. tt) returns-2 (λ _ _. tt) returns-3)
+    tie.close (tie.spec (λ _ _. tt) returns (λ _ _. tt) (λ c. search needs) (λ _ _. tt) (λ c. search needs))

@@ -1,24 +1,12 @@
 -- A NaN is what is not equal to itself.
-use Prim.Native.Nat.{ℕ, _*_}
-use mathlib.Core.Path.{_≡_, refl, subst}
-use mathlib.Core.Bool.{Bool, true, false, not, true≢false}
-use lib.Dec.{T, eqb, eqb-refl}
-use lib.Ieee.{Float, nan, inf, fin, up, down, eq, isNan, lt}
+use mathlib.Core.Path.{_≡_}
+use mathlib.Core.Bool.{true, false, true≢false}
+use lib.Ieee.{Float, eq, isNan, lt}
+use Rattle.scalar.proofs.Order.{by-test, equals-itself}
 use Rattle.triple_sort.specs.Sort.{number-above}
-use Rattle.triple_sort.proofs.NumberOrder.{by-test}
+use Rattle.scalar.proofs.Order.{by-test}
 use Rattle.triple_sort.proofs.number_above.Statement.{statement}
 use Rattle.triple_sort.proofs.number_above.Tie as tie
-
-same : (n : ℕ) → eqb n n ≡ true
-same n = by-test (eqb n n) (λ t. t) (λ t. absurd (subst T t (eqb-refl n)))
-
-equals-itself : (x : Float) → eq x x ≡ not (isNan x)
-unfolding eq isNan
-equals-itself nan = refl
-equals-itself (inf true) = refl
-equals-itself (inf false) = refl
-equals-itself (fin true m e) = rw (same (m * up e * down e))
-equals-itself (fin false m e) = rw (same (m * up e * down e))
 
 module _ (a b : Float) where
   number : eq a a ≡ true → lt b a ≡ number-above a b

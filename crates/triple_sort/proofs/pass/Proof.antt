@@ -1,4 +1,4 @@
--- The invariant: what is left of the pass gives what the whole pass gives.
+-- The invariant: what is left of the pass gives what all of it gives.
 use Prim.Native.Nat.{ℕ, suc, _+_, _-_, _≤_, _<_}
 use native.Mathlib.Omega.{arith}
 use mathlib.Core.Path.{_≡_, refl, _∙_}
@@ -8,17 +8,18 @@ use mathlib.Core.Logic.{⊎-elim}
 use lib.Ieee.{nan}
 use lib.ListN.{length, getD, set}
 use borrow.Author.Needs.{needs}
-use Rattle.triple_sort.specs.Sort.{ordered-above, at-front, pass}
+use Rattle.triple_sort.specs.Port.{at-front}
+use Rattle.triple_sort.specs.Sort.{ordered-above, pass}
 use Rattle.triple_sort.specs.declared.Ordered.{Ordered}
 use Rattle.triple_sort.proofs.Passes.{exchange-at, pass-from, pass-is}
 use Rattle.triple_sort.proofs.pass.Statement.{statement}
 use Rattle.triple_sort.proofs.pass.Tie as tie
 
-abbrev none : Ordered
-none = record { ordering = nan; solution = record { first = nan; second = nan; third = nan } }
+abbrev outside : Ordered
+outside = record { ordering = nan; solution = record { first = nan; second = nan; third = nan } }
 
 abbrev from : ℕ → ℕ → List Ordered → List Ordered
-from k i t = pass-from ordered-above none k i t
+from k i t = pass-from ordered-above outside k i t
 
 abbrev Inv-loop : tie.InvT-loop
 Inv-loop n t₀ j₀ t j = (1 ≤ j) × (from (n - j) (j - 1) t ≡ from (n - 1) 0 t₀)
@@ -27,7 +28,7 @@ abbrev μ-loop : tie.MeasureT-loop
 μ-loop n t₀ j₀ t j = n - j
 
 module _ (n j : ℕ) (t t₀ : List Ordered) (s : 1 ≤ j) (h : j < n) (inv : from (n - j) (j - 1) t ≡ from (n - 1) 0 t₀) where
-  next : {u : List Ordered} → u ≡ exchange-at ordered-above none (j - 1) t → from (n - (j + 1)) (j + 1 - 1) u ≡ from (n - 1) 0 t₀
+  next : {u : List Ordered} → u ≡ exchange-at ordered-above outside (j - 1) t → from (n - (j + 1)) (j + 1 - 1) u ≡ from (n - 1) 0 t₀
   unfolding pass-from
   next e =
       let more : n - j ≡ suc (n - (j + 1)) = omega arith in
@@ -35,8 +36,8 @@ module _ (n j : ℕ) (t t₀ : List Ordered) (s : 1 ≤ j) (h : j < n) (inv : fr
       let i = rw more at inv in
       rw (on, e) i
 
-  module _ {r : Bool} (e : r ≡ ordered-above (getD t (j - 1) none) (getD t j none)) where
-    swapped : {u : List Ordered} → r ≡ true → u ≡ set (set t (j - 1) (getD t j none)) j (getD t (j - 1) none) → from (n - (j + 1)) (j + 1 - 1) u ≡ from (n - 1) 0 t₀
+  module _ {r : Bool} (e : r ≡ ordered-above (getD t (j - 1) outside) (getD t j outside)) where
+    swapped : {u : List Ordered} → r ≡ true → u ≡ set (set t (j - 1) (getD t j outside)) j (getD t (j - 1) outside) → from (n - (j + 1)) (j + 1 - 1) u ≡ from (n - 1) 0 t₀
     unfolding exchange-at
     swapped x d = let here : suc (j - 1) ≡ j = omega arith in next (rw here cc)
 
@@ -48,46 +49,10 @@ end : (n j : ℕ) (t t₀ : List Ordered) → n ≤ 16 → length t₀ ≡ 16 �
 unfolding pass-from
 end n j t t₀ f l h inv =
     let over : n - j ≡ 0 = omega arith in
-    (rw over at inv) ∙ pass-is ordered-above none n t₀ (omega arith)
+    (rw over at inv) ∙ pass-is ordered-above outside n t₀ (omega arith)
 
 loop-holds : tie.Need-loop-holds Inv-loop μ-loop
 loop-holds c = (omega arith, refl)
-
-sub-a : tie.Need-sub-a Inv-loop μ-loop
-sub-a c = search needs
-
-mul-a : tie.Need-mul-a Inv-loop μ-loop
-mul-a c = search needs
-
-array-copy-out-a : tie.Need-array-copy-out-a Inv-loop μ-loop
-array-copy-out-a c = search needs
-
-mul-b : tie.Need-mul-b Inv-loop μ-loop
-mul-b c = search needs
-
-array-copy-out-b : tie.Need-array-copy-out-b Inv-loop μ-loop
-array-copy-out-b c = search needs
-
-sub-t : tie.Need-sub-t Inv-loop μ-loop
-sub-t c = search needs
-
-mul-t : tie.Need-mul-t Inv-loop μ-loop
-mul-t c = search needs
-
-array-set-from-t : tie.Need-array-set-from-t Inv-loop μ-loop
-array-set-from-t c = search needs
-
-mul-t-2 : tie.Need-mul-t-2 Inv-loop μ-loop
-mul-t-2 c = search needs
-
-array-set-from-t-2 : tie.Need-array-set-from-t-2 Inv-loop μ-loop
-array-set-from-t-2 c = search needs
-
-add-j : tie.Need-add-j Inv-loop μ-loop
-add-j c = search needs
-
-loop-less : tie.Need-loop-less Inv-loop μ-loop
-loop-less c = search needs
 
 loop-again : tie.Need-loop-again Inv-loop μ-loop
 loop-again c =
@@ -110,18 +75,18 @@ pass-spec =
     Inv-loop
     μ-loop
     loop-holds
-    sub-a
-    mul-a
-    array-copy-out-a
-    mul-b
-    array-copy-out-b
+    (λ c. search needs)
+    (λ c. search needs)
+    (λ c. search needs)
+    (λ c. search needs)
+    (λ c. search needs)
     (λ _ _. tt)
-    sub-t
-    mul-t
-    array-set-from-t
-    mul-t-2
-    array-set-from-t-2
-    add-j
-    loop-less
+    (λ c. search needs)
+    (λ c. search needs)
+    (λ c. search needs)
+    (λ c. search needs)
+    (λ c. search needs)
+    (λ c. search needs)
+    (λ c. search needs)
     loop-again
     returns)

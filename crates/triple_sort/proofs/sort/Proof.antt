@@ -6,7 +6,8 @@ use mathlib.Core.List.{List}
 use lib.ListN.{length, take, drop, take-append-drop}
 use lib.Seq.{length-take-le}
 use borrow.Author.Needs.{needs}
-use Rattle.triple_sort.specs.Sort.{ordered-above, at-front, pass, passes, sort}
+use Rattle.triple_sort.specs.Port.{at-front, in-order}
+use Rattle.triple_sort.specs.Sort.{ordered-above, pass, passes, sort}
 use Rattle.triple_sort.specs.declared.Ordered.{Ordered}
 use Rattle.triple_sort.proofs.Passes.{length-pass, length-front-of, pass-more}
 use Rattle.triple_sort.proofs.sort.Statement.{statement}
@@ -32,7 +33,7 @@ module _ (n k : ℕ) (t t₀ : List Ordered) (f : n ≤ 16) (l : length t ≡ 16
         let i = rw more at inv in
         rw e (pass-more n t (omega arith) ordered-above (n - (k + 1)) ∙ i)
 
-end : (n k : ℕ) (t t₀ : List Ordered) → n ≤ 16 → length t₀ ≡ 16 → n ≤ k → all n (n - k) t ≡ all n (n - 1) t₀ → t ≡ at-front n (sort ordered-above) t₀
+end : (n k : ℕ) (t t₀ : List Ordered) → n ≤ 16 → length t₀ ≡ 16 → n ≤ k → all n (n - k) t ≡ all n (n - 1) t₀ → t ≡ at-front n (in-order ordered-above) t₀
 unfolding sort passes
 end n k t t₀ f l h inv =
     let over : n - k ≡ 0 = omega arith in
@@ -43,15 +44,6 @@ end n k t t₀ f l h inv =
 loop-holds : tie.Need-loop-holds Inv-loop μ-loop
 loop-holds c = (omega arith, search needs, refl)
 
-pass-requires : tie.Need-pass-requires Inv-loop μ-loop
-pass-requires c κs = search needs
-
-add-k : tie.Need-add-k Inv-loop μ-loop
-add-k c = search needs
-
-loop-less : tie.Need-loop-less Inv-loop μ-loop
-loop-less c = search needs
-
 loop-again : tie.Need-loop-again Inv-loop μ-loop
 loop-again c = (omega arith, search same-length, search again)
 
@@ -61,4 +53,4 @@ returns c = search end
 pub sort-spec : {M : Type 1} → statement M
 sort-spec =
     tie.close
-    (tie.spec Inv-loop μ-loop loop-holds pass-requires add-k loop-less loop-again returns)
+    (tie.spec Inv-loop μ-loop loop-holds (λ c κs. search needs) (λ c. search needs) (λ c. search needs) loop-again returns)

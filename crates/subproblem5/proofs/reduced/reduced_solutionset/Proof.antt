@@ -1,5 +1,5 @@
 -- Up to four as they came. Over four, the first n slots hold at each step the list that the definition has there.
-use Prim.Native.Nat.{ℕ, zero, suc, _-_, _≤_, _<_, min}
+use Prim.Native.Nat.{ℕ, suc, _≤_, _<_}
 use native.Mathlib.Omega.{arith}
 use mathlib.Core.Path.{_≡_, refl, sym, ap, _∙_}
 use mathlib.Core.Bool.{true, false}
@@ -14,33 +14,29 @@ use Rattle.float.specs.Num.{infinity}
 use Rattle.tripleset.specs.TripleSet4.{from-vec}
 use Rattle.tripleset.specs.declared.Triple.{Triple}
 use Rattle.tripleset.specs.declared.TripleSet4.{TripleSet4}
-use Rattle.triple_sort.specs.Sort.{number-above, triple-above, ordered-above, at-front, sort}
-use Rattle.subproblem5.specs.Reduced.{with-ordering, solution-of, unordered, with-gaps, reduced-solutionset}
+use Rattle.triple_sort.specs.Port.{at-front, in-order}
+use Rattle.triple_sort.specs.Sort.{number-above, triple-above, ordered-above}
+use Rattle.subproblem5.specs.Port.{unordered, with-gaps}
+use Rattle.subproblem5.specs.Reduced.{with-ordering, solution-of, reduced-solutionset}
 use Rattle.triple_sort.specs.declared.Ordered.{Ordered}
 use Rattle.triple_sort.proofs.Passes.{length-sort, front-of, length-front-of, sort-map}
+use Rattle.subproblem5.proofs.InSlots.{map-take, first-four}
 use Rattle.subproblem5.proofs.reduced.reduced_solutionset.Statement.{statement}
 use Rattle.subproblem5.proofs.reduced.reduced_solutionset.Tie as tie
 
-abbrev none : Triple
-none = record { first = nan; second = nan; third = nan }
-
-four : (l : List Triple) → length l ≡ 16 → take 4 l ≡ getD l 0 none ∷ getD l 1 none ∷ getD l 2 none ∷ getD l 3 none ∷ []
-four [] h = absurd (omega arith)
-four (a ∷ []) h = absurd (omega arith)
-four (a ∷ b ∷ []) h = absurd (omega arith)
-four (a ∷ b ∷ c ∷ []) h = absurd (omega arith)
-four (a ∷ b ∷ c ∷ d ∷ l) h = refl
+abbrev outside : Triple
+outside = record { first = nan; second = nan; third = nan }
 
 few : (n : ℕ) (l : List Triple) {r : TripleSet4}
     → n ≤ 4
     → length l ≡ 16
-    → r ≡ from-vec (take n (getD l 0 none ∷ getD l 1 none ∷ getD l 2 none ∷ getD l 3 none ∷ []))
+    → r ≡ from-vec (take n (getD l 0 outside ∷ getD l 1 outside ∷ getD l 2 outside ∷ getD l 3 outside ∷ []))
     → r ≡ reduced-solutionset (take n l)
 unfolding reduced-solutionset
 few n l h k e =
     let m : length (take n l) ≡ n = length-take-le n l (omega arith) in
     let t = le-leb n 4 h in
-    let f = four l k in
+    let f = first-four outside l k in
     let g = take-take n 4 l h in
     cc
 
@@ -59,19 +55,14 @@ unfolding with-ordering
 length-ordering last [] = refl
 length-ordering last (a ∷ l) = ap suc (length-ordering (a .first) l)
 
-map-take : (n : ℕ) (l : List Ordered) → map solution-of (take n l) ≡ take n (map solution-of l)
-map-take zero l = refl
-map-take (suc n) [] = refl
-map-take (suc n) (a ∷ l) = ap (λ (m : List Triple). a .solution ∷ m) (map-take n l)
-
 many : (n : ℕ) (l : List Triple) (t1 : List Ordered) {t2 t3 t4 : List Ordered} {r : TripleSet4}
     → n ≤ 16
     → length l ≡ 16
     → 4 < n
     → take n t1 ≡ map unordered (take n l)
-    → t2 ≡ at-front n (sort ordered-above) t1
+    → t2 ≡ at-front n (in-order ordered-above) t1
     → t3 ≡ at-front n (with-gaps infinity) t2
-    → t4 ≡ at-front n (sort ordered-above) t3
+    → t4 ≡ at-front n (in-order ordered-above) t3
     → r ≡ from-vec (take 4 (map solution-of t4))
     → r ≡ reduced-solutionset (take n l)
 unfolding reduced-solutionset
@@ -80,48 +71,21 @@ many n l t1 {t2} {t3} {t4} f k h e1 e2 e3 e4 e =
     let t : leb (length (take n l)) 4 ≡ false = lt-leb (length (take n l)) 4 (omega arith) in
     let long1 : n ≤ length t1 = omega (arith, simp (length-take, length-map) at (ap length e1)) in
     let s1 = length-sort ordered-above (take n t1) in
-    let long2 : n ≤ length t2 = omega (arith, ap length e2, length-front-of n t1 long1 (sort ordered-above) s1) in
+    let long2 : n ≤ length t2 = omega (arith, ap length e2, length-front-of n t1 long1 (in-order ordered-above) s1) in
     let s2 = length-ordering infinity (map solution-of (take n t2)) ∙ length-map (take n t2) solution-of in
     let long3 : n ≤ length t3 = omega (arith, ap length e3, length-front-of n t2 long2 (with-gaps infinity) s2) in
     let s3 = length-sort ordered-above (take n t3) in
-    let f2 = front-of n t1 long1 (sort ordered-above) s1 in
+    let f2 = front-of n t1 long1 (in-order ordered-above) s1 in
     let f3 = front-of n t2 long2 (with-gaps infinity) s2 in
-    let f4 = front-of n t3 long3 (sort ordered-above) s3 in
+    let f4 = front-of n t3 long3 (in-order ordered-above) s3 in
     let g2 = sort-map unordered ordered-above triple-above same (take n l) in
-    let g3 = solutions-of (sort triple-above (take n l)) in
+    let g3 = solutions-of (in-order triple-above (take n l)) in
     let g4 = take-take 4 n (map solution-of t4) (omega arith) in
-    let g5 = map-take n t4 in
+    let g5 = map-take solution-of n t4 in
     cc
-
-array-copy-out-s0 : tie.Need-array-copy-out-s0
-array-copy-out-s0 c = search needs
-
-array-copy-out-s1 : tie.Need-array-copy-out-s1
-array-copy-out-s1 c = search needs
-
-array-copy-out-s2 : tie.Need-array-copy-out-s2
-array-copy-out-s2 c = search needs
-
-array-copy-out-s3 : tie.Need-array-copy-out-s3
-array-copy-out-s3 c = search needs
-
-from-slots-requires : tie.Need-from-slots-requires
-from-slots-requires c κs = search needs
 
 returns : tie.Need-returns
 returns c = search few
-
-unordered-requires : tie.Need-unordered-requires
-unordered-requires c κs = search needs
-
-sort-requires : tie.Need-sort-requires
-sort-requires c κs = search needs
-
-with-ordering-requires : tie.Need-with-ordering-requires
-with-ordering-requires c κs = search needs
-
-sort-requires-2 : tie.Need-sort-requires-2
-sort-requires-2 c κs = search needs
 
 returns-2 : tie.Need-returns-2
 returns-2 c = search many
@@ -130,15 +94,15 @@ pub reduced-solutionset-spec : {M : Type 1} → statement M
 reduced-solutionset-spec =
     tie.close
     (tie.spec
-    array-copy-out-s0
-    array-copy-out-s1
-    array-copy-out-s2
-    array-copy-out-s3
-    from-slots-requires
+    (λ c. search needs)
+    (λ c. search needs)
+    (λ c. search needs)
+    (λ c. search needs)
+    (λ c κs. search needs)
     returns
-    unordered-requires
-    sort-requires
-    with-ordering-requires
-    sort-requires-2
+    (λ c κs. search needs)
+    (λ c κs. search needs)
+    (λ c κs. search needs)
+    (λ c κs. search needs)
     (λ _ _. tt)
     returns-2)

@@ -2,20 +2,20 @@
 use Prim.Native.Nat.{ℕ, suc, _+_, _-_, _≤_, _<_}
 use native.Mathlib.Omega.{arith}
 use native.Mathlib.Numerals.{add-one}
-use mathlib.Core.Path.{_≡_, refl, ap, _∙_}
-use mathlib.Core.List.{List, [], _∷_, _++_, map}
+use mathlib.Core.Path.{_≡_, refl, _∙_}
+use mathlib.Core.List.{List, [], _∷_, map, map-append}
 use lib.Ieee.{nan}
 use lib.ListN.{length, getD, set, take, length-set}
 use lib.Seq.{take-suc, take-suc-set}
 use borrow.Author.Needs.{needs}
 use Rattle.tripleset.specs.declared.Triple.{Triple}
-use Rattle.subproblem5.specs.Reduced.{unordered}
+use Rattle.subproblem5.specs.Port.{unordered}
 use Rattle.triple_sort.specs.declared.Ordered.{Ordered}
 use Rattle.subproblem5.proofs.reduced.unordered.Statement.{statement}
 use Rattle.subproblem5.proofs.reduced.unordered.Tie as tie
 
-abbrev none : Triple
-none = record { first = nan; second = nan; third = nan }
+abbrev outside : Triple
+outside = record { first = nan; second = nan; third = nan }
 
 abbrev Inv-loop : tie.InvT-loop
 Inv-loop n solutions t₀ i₀ t i = (i ≤ n) × (length t ≡ 16) × (take i t ≡ map unordered (take i solutions))
@@ -23,21 +23,17 @@ Inv-loop n solutions t₀ i₀ t i = (i ≤ n) × (length t ≡ 16) × (take i t
 abbrev μ-loop : tie.MeasureT-loop
 μ-loop n solutions t₀ i₀ t i = n - i
 
-map-end : (l : List Triple) (a : Triple) → map unordered (l ++ (a ∷ [])) ≡ map unordered l ++ (unordered a ∷ [])
-map-end [] a = refl
-map-end (b ∷ l) a = ap (λ (m : List Ordered). unordered b ∷ m) (map-end l a)
-
 module _ (n i : ℕ) (l : List Triple) (t : List Ordered) (f : n ≤ 16) (k : length l ≡ 16) (h : i < n) (m : length t ≡ 16) where
   same-length : (v : Ordered) → length (set t i v) ≡ 16
   same-length v = length-set t i v ∙ m
 
-  again : take i t ≡ map unordered (take i l) → take (i + 1) (set t i (unordered (getD l i none))) ≡ map unordered (take (i + 1) l)
+  again : take i t ≡ map unordered (take i l) → take (i + 1) (set t i (unordered (getD l i outside))) ≡ map unordered (take (i + 1) l)
   again inv =
       let a : i < length t = omega arith in
       let b : i < length l = omega arith in
-      let e = take-suc-set t i (unordered (getD l i none)) a in
-      let g = take-suc l i none b in
-      let u = map-end (take i l) (getD l i none) in
+      let e = take-suc-set t i (unordered (getD l i outside)) a in
+      let g = take-suc l i outside b in
+      let u = map-append unordered (take i l) (getD l i outside ∷ []) in
       simp add-one cc
 
 end : (n i : ℕ) (l : List Triple) (t : List Ordered) → i ≤ n → n ≤ i → take i t ≡ map unordered (take i l) → take n t ≡ map unordered (take n l)
@@ -45,24 +41,6 @@ end n i l t g h inv = let e : i ≡ n = omega arith in rw e at inv
 
 loop-holds : tie.Need-loop-holds Inv-loop μ-loop
 loop-holds c = (omega arith, refl, refl)
-
-mul-solution : tie.Need-mul-solution Inv-loop μ-loop
-mul-solution c = search needs
-
-array-copy-out-solution : tie.Need-array-copy-out-solution Inv-loop μ-loop
-array-copy-out-solution c = search needs
-
-mul-t : tie.Need-mul-t Inv-loop μ-loop
-mul-t c = search needs
-
-array-set-from-t : tie.Need-array-set-from-t Inv-loop μ-loop
-array-set-from-t c = search needs
-
-add-i : tie.Need-add-i Inv-loop μ-loop
-add-i c = search needs
-
-loop-less : tie.Need-loop-less Inv-loop μ-loop
-loop-less c = search needs
 
 loop-again : tie.Need-loop-again Inv-loop μ-loop
 loop-again c = (omega arith, search same-length, search again)
@@ -77,11 +55,11 @@ unordered-spec =
     Inv-loop
     μ-loop
     loop-holds
-    mul-solution
-    array-copy-out-solution
-    mul-t
-    array-set-from-t
-    add-i
-    loop-less
+    (λ c. search needs)
+    (λ c. search needs)
+    (λ c. search needs)
+    (λ c. search needs)
+    (λ c. search needs)
+    (λ c. search needs)
     loop-again
     returns)

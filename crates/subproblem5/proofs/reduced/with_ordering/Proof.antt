@@ -9,14 +9,15 @@ use lib.ListN.{length, getD, set}
 use borrow.Author.Needs.{needs}
 use Rattle.float.specs.Num.{_⊖_, _⊗_, _⊘_, one, infinity}
 use Rattle.tripleset.specs.declared.Triple.{Triple}
-use Rattle.triple_sort.specs.Sort.{at-front}
-use Rattle.subproblem5.specs.Reduced.{with-ordering, with-gaps}
+use Rattle.triple_sort.specs.Port.{at-front}
+use Rattle.subproblem5.specs.Port.{with-gaps}
+use Rattle.subproblem5.specs.Reduced.{with-ordering}
 use Rattle.triple_sort.specs.declared.Ordered.{Ordered}
 use Rattle.subproblem5.proofs.reduced.with_ordering.Statement.{statement}
 use Rattle.subproblem5.proofs.reduced.with_ordering.Tie as tie
 
-abbrev none : Ordered
-none = record { ordering = nan; solution = record { first = nan; second = nan; third = nan } }
+abbrev outside : Ordered
+outside = record { ordering = nan; solution = record { first = nan; second = nan; third = nan } }
 
 abbrev ordered : Float → Triple → Ordered
 ordered last s = record { ordering = one ⊘ ((s .first ⊖ last) ⊗ (s .first ⊖ last)); solution = s }
@@ -24,13 +25,13 @@ ordered last s = record { ordering = one ⊘ ((s .first ⊖ last) ⊗ (s .first 
 -- the ordering values of k places from i on
 unfoldable from : ℕ → ℕ → Float → List Ordered → List Ordered
 from zero i last t = t
-from (suc k) i last t = let s = getD t i none .solution in from k (suc i) (s .first) (set t i (ordered last s))
+from (suc k) i last t = let s = getD t i outside .solution in from k (suc i) (s .first) (set t i (ordered last s))
 
 from-after : (k i : ℕ) (last : Float) (x : Ordered) (t : List Ordered) → from k (suc i) last (x ∷ t) ≡ x ∷ from k i last t
 unfolding from
 from-after zero i last x t = refl
 from-after (suc k) i last x t =
-    let s = getD t i none .solution in from-after k (suc i) (s .first) x (set t i (ordered last s))
+    let s = getD t i outside .solution in from-after k (suc i) (s .first) x (set t i (ordered last s))
 
 from-is : (k : ℕ) (last : Float) (t : List Ordered) → k ≤ length t → from k 0 last t ≡ at-front k (with-gaps last) t
 unfolding from with-ordering
@@ -53,7 +54,7 @@ begin n t e = let z : n - 0 ≡ n = omega arith in cc
 again : (n i : ℕ) (last : Float) (t t₀ : List Ordered)
     → i < n
     → from (n - i) i last t ≡ from n 0 infinity t₀
-    → let s = getD t i none .solution in
+    → let s = getD t i outside .solution in
     from (n - (i + 1)) (i + 1) (s .first) (set t i (ordered last s)) ≡ from n 0 infinity t₀
 unfolding from
 again n i last t t₀ h inv =
@@ -70,24 +71,6 @@ end n i last t t₀ f l h inv =
 loop-holds : tie.Need-loop-holds Inv-loop μ-loop
 loop-holds c = (omega arith, search begin)
 
-mul-o : tie.Need-mul-o Inv-loop μ-loop
-mul-o c = search needs
-
-array-copy-out-o : tie.Need-array-copy-out-o Inv-loop μ-loop
-array-copy-out-o c = search needs
-
-mul-t : tie.Need-mul-t Inv-loop μ-loop
-mul-t c = search needs
-
-array-set-from-t : tie.Need-array-set-from-t Inv-loop μ-loop
-array-set-from-t c = search needs
-
-add-i : tie.Need-add-i Inv-loop μ-loop
-add-i c = search needs
-
-loop-less : tie.Need-loop-less Inv-loop μ-loop
-loop-less c = search needs
-
 loop-again : tie.Need-loop-again Inv-loop μ-loop
 loop-again c = (omega arith, search again)
 
@@ -102,11 +85,11 @@ with-ordering-spec =
     μ-loop
     (λ _ _. tt)
     loop-holds
-    mul-o
-    array-copy-out-o
-    mul-t
-    array-set-from-t
-    add-i
-    loop-less
+    (λ c. search needs)
+    (λ c. search needs)
+    (λ c. search needs)
+    (λ c. search needs)
+    (λ c. search needs)
+    (λ c. search needs)
     loop-again
     returns)

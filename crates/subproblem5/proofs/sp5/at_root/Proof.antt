@@ -3,14 +3,15 @@ use mathlib.Core.Path.{_≡_}
 use mathlib.Core.Bool.{true, false}
 use mathlib.Core.List.{[]}
 use lib.Ieee.{Float, lt}
+use borrow.Author.Needs.{needs}
 use Rattle.float.specs.Num.{nought}
 use Rattle.linear.specs.Vector.{scaleᵛ}
 use Rattle.vector.specs.declared.Vector3.{Vector3}
 use Rattle.tripleset.specs.TripleSet4.{slots}
 use Rattle.tripleset.specs.declared.TripleSlots4.{TripleSlots4}
-use Rattle.subproblem5.specs.Subproblem5.{sq, sides, signed, at-root}
+use Rattle.subproblem5.specs.Port.{sq, points, of-points, at-root}
 use Rattle.subproblem5.specs.declared.Circle.{Circle}
-use Rattle.subproblem5.specs.declared.Sides.{Sides}
+use Rattle.subproblem5.specs.declared.Points.{Points}
 use Rattle.subproblem5.proofs.sp5.at_root.Statement.{statement}
 use Rattle.subproblem5.proofs.sp5.at_root.Tie as tie
 
@@ -24,12 +25,12 @@ module _ (c1 c3 : Circle) (k2 : Vector3) (h : Float) {sq1 : Float} (e1 : sq1 ≡
     unfolding at-root
     second-below t e = let s1 = rw e1 at t1 in let s = rw e3 at t in rw (s1, s) e
 
-    both : {hk2 : Vector3} {s1 s3 : Sides} {r : TripleSlots4}
+    both : {hk2 : Vector3} {s1 s3 : Points} {r : TripleSlots4}
         → lt sq3 nought ≡ false
         → hk2 ≡ scaleᵛ k2 h
-        → s1 ≡ sides c1 h sq1 hk2
-        → s3 ≡ sides c3 h sq3 hk2
-        → r ≡ slots (signed k2 s1 s3)
+        → s1 ≡ points c1 h sq1 hk2
+        → s3 ≡ points c3 h sq3 hk2
+        → r ≡ slots (of-points k2 s1 s3)
         → r ≡ slots (at-root c1 c3 k2 h)
     unfolding at-root
     both t e-h e-s1 e-s3 e =
@@ -38,13 +39,13 @@ module _ (c1 c3 : Circle) (k2 : Vector3) (h : Float) {sq1 : Float} (e1 : sq1 ≡
         rw (u1, u) (rw (e-s1, e-s3, e-h, e1, e3) at e)
 
 returns : tie.Need-returns
-returns c = search first-below
+returns c = (search first-below, search needs)
 
 returns-2 : tie.Need-returns-2
-returns-2 c = search second-below
+returns-2 c = (search second-below, search needs)
 
 returns-3 : tie.Need-returns-3
-returns-3 c = search both
+returns-3 c = (search both, search needs)
 
 pub at-root-spec : {M : Type 1} → statement M
 at-root-spec =

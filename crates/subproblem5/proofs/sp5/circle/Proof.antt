@@ -7,7 +7,8 @@ use Rattle.linear.specs.Matrix.{Matrix, apply, outer}
 use Rattle.vector.specs.declared.Vector3.{Vector3}
 use Rattle.convolution.specs.declared.Vector2.{Vector2}
 use Rattle.subproblems.specs.Columns.{columns}
-use Rattle.subproblem5.specs.Subproblem5.{j-apply, circle}
+use Rattle.subproblem5.specs.Port.{circle}
+use Rattle.subproblem5.specs.Subproblem5.{j-transpose-times}
 use Rattle.subproblem5.specs.declared.Circle.{Circle}
 use Rattle.subproblems.specs.declared.Columns.{Columns}
 use Rattle.subproblem5.proofs.sp5.circle.Statement.{statement}
@@ -21,7 +22,7 @@ met : (p0 p k k2 : Vector3) {kk : Matrix} {kkp p-s : Vector3} {a : Columns} {x y
     → x ≡ dot (a .first) k2
     → y ≡ dot (a .second) k2
     → delta ≡ dot k2 p-s
-    → j ≡ j-apply a k2
+    → j ≡ j-transpose-times a k2
     → _≡_ {A = Circle}
     (record { a = a; «p_s» = p-s; delta = delta; «a_k2» = record { x = x; y = y }; «norm_sq» = x ⊗ x ⊕ y ⊗ y; «j_a_k2» = j })
     (circle p0 p k k2)

@@ -8,50 +8,34 @@ use borrow.Author.Needs.{needs}
 use Rattle.float.specs.Num.{_⊖_}
 use Rattle.float.specs.Number.{abs}
 use Rattle.float.specs.Root.{sqrt}
+use Rattle.norms.specs.Norms.{tolerance}
 use Rattle.vector.specs.declared.Vector3.{Vector3}
 use Rattle.tripleset.specs.declared.Triple.{Triple}
 use Rattle.tripleset.specs.declared.TripleSlots4.{TripleSlots4}
-use Rattle.subproblem5.specs.Points.{side-of}
-use Rattle.subproblem5.specs.Subproblem5.{epsilon, angles, candidate, pushed}
+use Rattle.subproblem5.specs.Port.{angles, agree, pushed}
 use Rattle.subproblem5.specs.declared.Point.{Point}
 use Rattle.subproblem5.proofs.sp5.push.Statement.{statement}
 use Rattle.subproblem5.proofs.sp5.push.Tie as tie
 
-module _ (found : TripleSlots4) (k2 : Vector3) (s1 s3 : Point) {b : Bool} (e-b : b ≡ lt (abs (sqrt (s1 .«distance_sq») ⊖ sqrt (s3 .«distance_sq»))) epsilon) where
-  one : {t : Triple}
+module _ (found : TripleSlots4) (k2 : Vector3) (q1 q3 : Point) {b : Bool} (e-b : b ≡ lt (abs (sqrt (q1 .«distance_sq») ⊖ sqrt (q3 .«distance_sq»))) tolerance) where
+  taken : {t : Triple}
       → b ≡ true
-      → t ≡ angles k2 (side-of s1) (side-of s3)
-      → _≡_ {A = TripleSlots4} (record { slots = set (found .slots) (found .count) t; count = found .count + 1 }) (pushed found (candidate k2 (side-of s1) (side-of s3)))
-  unfolding candidate
-  one t e = cc
+      → t ≡ angles k2 q1 q3
+      → _≡_ {A = TripleSlots4} (record { slots = set (found .slots) (found .count) t; count = found .count + 1 }) (pushed found (agree q1 q3) (angles k2 q1 q3))
+  unfolding agree
+  taken t e = cc
 
-  none : b ≡ false → found ≡ pushed found (candidate k2 (side-of s1) (side-of s3))
-  unfolding candidate
-  none t = cc
-
-mul-slots : tie.Need-mul-slots
-mul-slots c = search needs
-
-array-set-from-slots : tie.Need-array-set-from-slots
-array-set-from-slots c = search needs
-
-add-count : tie.Need-add-count
-add-count c = search needs
+  left : b ≡ false → found ≡ pushed found (agree q1 q3) (angles k2 q1 q3)
+  unfolding agree
+  left t = cc
 
 returns : tie.Need-returns
-returns c = search one
+returns c = (search taken, search needs)
 
 returns-2 : tie.Need-returns-2
-returns-2 c = search none
+returns-2 c = (search left, search needs)
 
 pub push-spec : {M : Type 1} → statement M
 push-spec =
     tie.close
-    (tie.spec
-    (λ _ _. tt)
-    (λ _ _. tt)
-    mul-slots
-    array-set-from-slots
-    add-count
-    returns
-    returns-2)
+    (tie.spec (λ _ _. tt) (λ _ _. tt) (λ c. search needs) (λ c. search needs) (λ c. search needs) returns returns-2)

@@ -17,9 +17,11 @@ use Rattle.tripleset.specs.declared.TripleSet4.{TripleSet4}
 use Rattle.convolution.specs.Convolution.{cone-polynomials}
 use Rattle.convolution.specs.declared.Cone.{Cone}
 use Rattle.subproblem5.specs.Reduced.{reduced-solutionset}
-use Rattle.subproblem5.specs.Subproblem5.{circle, h-vec, at-root, in-sixteen, subproblem5}
+use Rattle.subproblem5.specs.Port.{circle, at-root, in-sixteen}
+use Rattle.subproblem5.specs.Subproblem5.{h-vec, subproblem5}
 use Rattle.subproblem5.specs.declared.Candidates.{Candidates}
 use Rattle.subproblem5.specs.declared.Circle.{Circle}
+use Rattle.subproblem5.proofs.Cut.{cut}
 use Rattle.subproblem5.proofs.sp5.subproblem5.Statement.{statement}
 use Rattle.subproblem5.proofs.sp5.subproblem5.Tie as tie
 
@@ -36,16 +38,12 @@ met : (p0 p1 p2 p3 k1 k2 k3 : Vector3) {c1 c3 : Circle} {cone1 cone3 : Cone} {he
     → found ≡ in-sixteen (flatMap (at-root c1 c3 k2) (take (heights .count) (heights .slots)))
     → r ≡ reduced-solutionset (take (found .count) (found .slots))
     → r ≡ subproblem5 p0 p1 p2 p3 k1 k2 k3
-unfolding subproblem5
 met p0 p1 p2 p3 k1 k2 k3 {c1} {c3} {cone1} {cone3} {heights} {found} e1 e3 e-c1 e-c3 e-h e-f e =
     let l = h-vec cone1 cone3 in
     let m = flatMap (at-root c1 c3 k2) l in
     let h : take (heights .count) (heights .slots) ≡ l = rw e-h (first-of 4 nought l) in
     let f : take (found .count) (found .slots) ≡ m = rw e-f (rw h (first-of 16 none m)) in
-    rw (f, e-c1, e-c3, e1, e3) at e
-
-reduced-solutionset-requires : tie.Need-reduced-solutionset-requires
-reduced-solutionset-requires c κs = search needs
+    (rw (f, e-c1, e-c3, e1, e3) at e) ∙ cut p0 p1 p2 p3 k1 k2 k3
 
 returns : tie.Need-returns
 returns c = search met
@@ -60,5 +58,5 @@ subproblem5-spec =
     (λ _ _. tt)
     (λ _ _. tt)
     (λ _ _. tt)
-    reduced-solutionset-requires
+    (λ c κs. search needs)
     returns)

@@ -23,42 +23,6 @@ met : (h k p : List Vector3) (d1 d2 : Float) {a0 a1 : Vector4} {b0 b1 : Float} {
 unfolding subproblem6
 met h k p d1 d2 e1 e2 e3 e4 e5 e6 e7 = cc
 
-array-copy-out-h0 : tie.Need-array-copy-out-h0
-array-copy-out-h0 c = search needs
-
-array-copy-out-h1 : tie.Need-array-copy-out-h1
-array-copy-out-h1 c = search needs
-
-array-copy-out-h2 : tie.Need-array-copy-out-h2
-array-copy-out-h2 c = search needs
-
-array-copy-out-h3 : tie.Need-array-copy-out-h3
-array-copy-out-h3 c = search needs
-
-array-copy-out-k0 : tie.Need-array-copy-out-k0
-array-copy-out-k0 c = search needs
-
-array-copy-out-k1 : tie.Need-array-copy-out-k1
-array-copy-out-k1 c = search needs
-
-array-copy-out-k2 : tie.Need-array-copy-out-k2
-array-copy-out-k2 c = search needs
-
-array-copy-out-k3 : tie.Need-array-copy-out-k3
-array-copy-out-k3 c = search needs
-
-array-copy-out-p0 : tie.Need-array-copy-out-p0
-array-copy-out-p0 c = search needs
-
-array-copy-out-p1 : tie.Need-array-copy-out-p1
-array-copy-out-p1 c = search needs
-
-array-copy-out-p2 : tie.Need-array-copy-out-p2
-array-copy-out-p2 c = search needs
-
-array-copy-out-p3 : tie.Need-array-copy-out-p3
-array-copy-out-p3 c = search needs
-
 returns : tie.Need-returns
 returns c = search met
 
@@ -66,18 +30,18 @@ pub subproblem6-spec : {M : Type 1} → statement M
 subproblem6-spec =
     tie.close
     (tie.spec
-    array-copy-out-h0
-    array-copy-out-h1
-    array-copy-out-h2
-    array-copy-out-h3
-    array-copy-out-k0
-    array-copy-out-k1
-    array-copy-out-k2
-    array-copy-out-k3
-    array-copy-out-p0
-    array-copy-out-p1
-    array-copy-out-p2
-    array-copy-out-p3
+    (λ c. search needs)
+    (λ c. search needs)
+    (λ c. search needs)
+    (λ c. search needs)
+    (λ c. search needs)
+    (λ c. search needs)
+    (λ c. search needs)
+    (λ c. search needs)
+    (λ c. search needs)
+    (λ c. search needs)
+    (λ c. search needs)
+    (λ c. search needs)
     (λ _ _. tt)
     (λ _ _. tt)
     (λ _ _. tt)

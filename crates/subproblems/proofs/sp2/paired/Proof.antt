@@ -31,23 +31,11 @@ module _ (theta1 theta2 : SolutionSet2) {n1 : ℕ} (e-n1 : n1 ≡ size theta1) w
   unfolding paired
   neither g e-n2 h e-a e-b = let s = le-ltb _ _ g in let t = le-ltb _ _ h in cc
 
-crossed-requires : tie.Need-crossed-requires
-crossed-requires c κs = search needs
-
 returns : tie.Need-returns
 returns c = search first
 
-crossed-requires-2 : tie.Need-crossed-requires-2
-crossed-requires-2 c κs = search needs
-
 returns-2 : tie.Need-returns-2
 returns-2 c = search second
-
-expect-one-requires : tie.Need-expect-one-requires
-expect-one-requires c κs = search needs
-
-expect-one-requires-2 : tie.Need-expect-one-requires-2
-expect-one-requires-2 c κs = search needs
 
 returns-3 : tie.Need-returns-3
 returns-3 c = search neither
@@ -57,11 +45,11 @@ paired-spec =
     tie.close
     (tie.spec
     (λ _ _. tt)
-    crossed-requires
+    (λ c κs. search needs)
     returns
     (λ _ _. tt)
-    crossed-requires-2
+    (λ c κs. search needs)
     returns-2
-    expect-one-requires
-    expect-one-requires-2
+    (λ c κs. search needs)
+    (λ c κs. search needs)
     returns-3)

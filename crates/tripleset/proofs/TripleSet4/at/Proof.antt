@@ -1,4 +1,4 @@
--- The slot with the number i holds the answer with that number.
+-- The slot with the number i holds the solution with that number.
 use mathlib.Core.Path.{ap}
 use native.Mathlib.Omega.{arith}
 use Rattle.tripleset.specs.TripleSet4.{get-all, few, none}

@@ -9,25 +9,25 @@ use Rattle.pairset.proofs.Laws.{of-four}
 use Rattle.tripleset.proofs.TripleSet4.from_slots.Statement.{statement}
 use Rattle.tripleset.proofs.TripleSet4.from_slots.Tie as tie
 
-abbrev unread : Triple
-unread = record { first = nan; second = nan; third = nan }
+abbrev outside : Triple
+outside = record { first = nan; second = nan; third = nan }
 
 returns : tie.Need-returns
-returns c = search (of-four from-vec unread 0)
+returns c = search (of-four from-vec outside 0)
 
 returns-2 : tie.Need-returns-2
-returns-2 c = search (of-four from-vec unread 1)
+returns-2 c = search (of-four from-vec outside 1)
 
 returns-3 : tie.Need-returns-3
-returns-3 c = search (of-four from-vec unread 2)
+returns-3 c = search (of-four from-vec outside 2)
 
 returns-4 : tie.Need-returns-4
-returns-4 c = search (of-four from-vec unread 3)
+returns-4 c = search (of-four from-vec outside 3)
 
 returns-5 : tie.Need-returns-5
 returns-5 c =
     let all : c .before .before .before .before .before .args .count ≡ 4 = omega arith in
-    search (of-four from-vec unread 4)
+    search (of-four from-vec outside 4)
 
 pub from-slots-spec : {M : Type 1} → statement M
 from-slots-spec =

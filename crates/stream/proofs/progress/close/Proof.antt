@@ -1,0 +1,27 @@
+-- `close`: nothing is printed where no block was begun.
+use native.Mathlib.Omega.{arith}
+use borrow.Author.Needs.{needs}
+use Rattle.stream.proofs.Steps.{part, closes-none, closes-short}
+use Rattle.stream.proofs.progress.close.Statement.{statement}
+use Rattle.stream.proofs.progress.close.Tie as tie
+
+returns : tie.Need-returns
+returns c = search closes-none
+
+slice-aggregate-lines : tie.Need-slice-aggregate-lines
+slice-aggregate-lines c = part _ _ (omega arith)
+
+lines-requires : tie.Need-lines-requires
+lines-requires c κs = search needs
+
+same-length : tie.Need-same-length
+same-length c = search needs
+
+same-length-2 : tie.Need-same-length-2
+same-length-2 c = search needs
+
+returns-2 : tie.Need-returns-2
+returns-2 c = search closes-short
+
+pub close-spec : {M : Type 1} → statement M
+close-spec = tie.close (tie.spec returns slice-aggregate-lines lines-requires same-length same-length-2 returns-2)

@@ -1,0 +1,4 @@
+pub mod Output
+pub mod Standing
+pub mod Progress
+pub mod Calls
