@@ -1,8 +1,8 @@
 // The convolutions, and the polynomials of a cone.
-mod triangular;
-
+use crate::Cone;
+use crate::Vector2;
+use crate::Vector5;
 use linear::Vector3;
-pub use triangular::solve_lower_triangular_system_2x2;
 ghost use mathlib.Core.Path.{_≡_};
 ghost use Rattle.polynomial.specs.Convolution.{vec-self-convolve-2, vec-self-convolve-3, vec-convolve-3, cone-polynomials};
 

@@ -15,12 +15,12 @@ pub use convolution::vec_convolve_3;
 pub use convolution::vec_self_convolve_2;
 pub use convolution::vec_self_convolve_3;
 pub use cubic_roots::solve_cubic_roots;
+use linear::Vector3;
 pub use quadratic_roots::solve_quadratic_roots;
 pub use quartic_roots::solve_quartic_roots;
 pub use reals::real_parts;
 pub use reals::real_quartic;
 pub use triangular::solve_lower_triangular_system_2x2;
-use vector::Vector3;
 
 pub struct Vector2 {
     pub x: f64,
