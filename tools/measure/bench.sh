@@ -7,8 +7,8 @@
 #   tools/measure/bench.sh [-c COUNTED] [-t TIMED] [-r ROUNDS]
 # Time: TIMED poses (1000), the least of ROUNDS rounds (20; in family 6 of a quarter of them).
 # Instructions: callgrind, 1000 poses in families 1 to 5, COUNTED (100) in family 6.
-# Needs rt, rustc, valgrind and python3, and for `untouched` what `tools/compare/untouched.sh SOURCES` builds in
-# target/untouched. Where that is missing it is left out, and said. Its n is 200.
+# Needs rt, rustc, valgrind and python3, and for `untouched` what `tools/compare/untouched.sh SOURCES`
+# builds in target/untouched. Where that is missing it is left out, and said. Its n is 200.
 set -euo pipefail
 cd "$(dirname "$0")/../.."
 counted=100 timed=1000 rounds=20
