@@ -47,7 +47,8 @@
  *      a search with n samples
  *   Not parallel are, in families 1 to 4, axes 1 and 2, 4 and 5, 5 and 6, in family 3 also 2 and 3; in
  *   family 5 axes 1 and 2, 4 and 5; in family 6 axes 3 and 4.
- *   None of it is tested. Where it fails the refusal is 0 as well, and (tools/claims.py shows each):
+ *   None of it is tested. Where it fails the refusal is 0 as well, and
+ *   (tools/measure/claims.py shows each):
  *   - Families 1 to 3 never read p4 and p5, and family 2 never reads p1: they solve the arm that has
  *     zero there, and each answer without a flag misses the place by the length of what was left out.
  *   - Families 4 and 5 never read h3 and h4, and family 6 never reads h3: they take h2. Where h3 = -h2,
@@ -87,10 +88,10 @@
  * MEMORY AND TIME
  *   A solve takes up to 190 KB of stack, in every family: give the thread at least 256 KB (many
  *   systems give a thread 128 KB or less, and an overflow is not caught here). Measured, not proved:
- *   tools/memory.sh. No heap, no file, no global data: a call uses its arguments and the stack alone,
- *   so calls in several threads do not meet, each with lists of its own. Every call ends, on every
- *   input: family 6 evaluates its error at most n + 1 + 3128 * n times. The floating-point unit has to
- *   round to nearest and to keep subnormals, as it does where nobody changed it.
+ *   tools/measure/memory.sh. No heap, no file, no global data: a call uses its arguments and the stack
+ *   alone, so calls in several threads do not meet, each with lists of its own. Every call ends, on
+ *   every input: family 6 evaluates its error at most n + 1 + 3128 * n times. The floating-point unit
+ *   has to round to nearest and to keep subnormals, as it does where nobody changed it.
  *
  * The results are bit for bit those of the definitions in crates/ (specs/), for any input, but for the
  * bits of a NaN: a number is NaN where the definition's is, and which of the NaNs is open. That is

@@ -188,7 +188,7 @@ fn command<A: Arith>(line: &CommandLine, output: &mut impl Write) -> Result<(), 
             let request = Generated::parse(kind, family, seed, count, n)?;
             told(request.write_recovered::<A>(output, line.by))
         }
-        ["lacking", kind @ ("reachable" | "degenerate" | "round"), family, seed, count, ref n @ ..] => {
+        ["lacking", kind @ ("reachable" | "degenerate"), family, seed, count, ref n @ ..] => {
             let request = Generated::parse(kind, family, seed, count, n)?;
             told(request.write_lacking::<A>(output))
         }

@@ -1,4 +1,4 @@
-// The functions by number for a C or Rust caller: what tools/bench_functions.sh measures.
+// The functions by number for a C or Rust caller: what tools/measure/bench_functions.sh measures.
 #[no_mangle]
 pub extern "C" fn bench_polynomial(id: u64, args: &[f64; 40], out: &mut [u64; 23]) {
     polynomial_calls::polynomial(id, args, out);

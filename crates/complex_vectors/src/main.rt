@@ -1,6 +1,6 @@
 // Compares the crate complex with outside results. Standard input has records of seven words: the id
 // of a function, four words of arguments and two of results. A complex number is re, im.
-// `oracle cases complex 1 100` made the stored cases; tools/compare.sh runs others.
+// `oracle cases complex 1 100` made the stored cases; tools/compare/compare.sh runs others.
 use complex::Complex;
 ghost use Prim.Native.Nat.{_+_, _≤_};
 

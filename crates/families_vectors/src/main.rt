@@ -4,8 +4,8 @@
 // lists that have room for all answers, and with lists that are too short in one way or another:
 // the answers that fit both stand in the lists, and whatever else they held stands there yet.
 // Records of family 6, whose lists may be longer, are passed over: the program search_vectors has those.
-// `oracle cases families 1 300` made the stored cases, less those of family 6; tools/compare.sh
-// runs others.
+// `oracle cases families 1 300` made the stored cases, less those of family 6;
+// tools/compare/compare.sh runs others.
 ghost use Prim.Native.Nat.{_≤_};
 
 // One more than the last family.

@@ -1,5 +1,6 @@
 -- Family 3: spherical of inverse_kinematics/mod.rs. The answers in the Rust's order; a definition for the body of each `for` says what it
 -- pushes. subproblem5 gives no flag.
+-- The tolerance of subproblem1's flag is handed down. The Rust's kin.h.column(0) is h1 here, its kin.p.column(0) is p0.
 use mathlib.Core.Bool.{false}
 use mathlib.Core.List.{List, flatMap}
 use lib.Ieee.{Float}

@@ -1,4 +1,4 @@
-// The scalar functions for a C or Rust caller: what tools/bench_float measures.
+// The scalar functions for a C or Rust caller: what tools/measure/bench_float.sh measures.
 ghost use mathlib.Core.Path.{_≡_};
 ghost use Rattle.float.specs.Root.{sqrt, cbrt};
 ghost use Rattle.float.specs.Sine.{sin, cos};

@@ -1,7 +1,7 @@
 // Compares the crate float with outside results. Standard input has records of five words: the id
 // of a function, x, y, and one or two results. The program writes, for each function, how many cases
 // there were and how many of them the port gives another result for.
-// tools/make_float_vectors.py makes the stored cases; tools/compare.sh runs others.
+// tools/make/make_float_vectors.py makes the stored cases; tools/compare/compare.sh runs others.
 const FUNCTIONS: u64 = 17;
 
 // Results that are one f64. An id that is none of theirs is answered elsewhere.

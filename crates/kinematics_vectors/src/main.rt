@@ -1,6 +1,6 @@
 // Compares forward_kinematics with outside results. Standard input has records of 64 words: the id,
 // which is 0, the arm's 39 numbers, six angles and 18 words of results, as `oracle layout` has them.
-// `oracle cases kinematics 1 500` made the stored cases; tools/compare.sh runs others.
+// `oracle cases kinematics 1 500` made the stored cases; tools/compare/compare.sh runs others.
 const FUNCTIONS: u64 = 1;
 
 const ARM: usize = 1;

@@ -1,6 +1,6 @@
 // Compares the crate linear with outside results. Standard input has records of 28 words: the id of
 // a function, 18 words of arguments and 9 of results. A vector is x, y, z, and a matrix goes by rows.
-// `oracle cases linear 1 60` made the stored cases; tools/compare.sh runs others.
+// `oracle cases linear 1 60` made the stored cases; tools/compare/compare.sh runs others.
 use linear::Matrix3;
 use linear::Vector3;
 ghost use Prim.Native.Nat.{_+_, _≤_};

@@ -1,7 +1,7 @@
 // Compares the crate polynomial with outside results. Standard input has records of 64 words: the
 // id of a function, 40 words of arguments and 23 of results, as `oracle layout` has them.
 // `oracle cases polynomial 373 500` made the stored cases, in which every count of roots and of
-// points occurs; tools/compare.sh runs others.
+// points occurs; tools/compare/compare.sh runs others.
 const FUNCTIONS: u64 = 10;
 
 // The place of the first result.

@@ -4,7 +4,7 @@ use mathlib.Core.Bool.{Bool, true, false, cond}
 use mathlib.Core.List.{List, [], _∷_}
 use lib.Ieee.{Float}
 use Rattle.qr.specs.Qr.{entries, is-zero, stepped, qr}
-use Rattle.qr.specs.Householder.{entries-3, lower, reflection-4, reflection-3, reflect-4, reflect-3, columns, factors}
+use Rattle.qr.specs.Port.{entries-3, lower, reflection-4, reflection-3, reflect-4, reflect-3, columns, factors}
 use Rattle.qr.specs.declared.Vector4.{Vector4}
 
 -- a function of what a test picks

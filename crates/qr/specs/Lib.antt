@@ -1,2 +1,2 @@
 pub mod Qr
-pub mod Householder
+pub mod Port

@@ -8,7 +8,7 @@ ghost use mathlib.Core.List.{[], _∷_};
 ghost use lib.Ieee.{lt};
 ghost use Rattle.float.specs.Num.{_⊕_, nought};
 ghost use Rattle.qr.specs.Qr.{entries, dot, turned, is-zero, qr};
-ghost use Rattle.qr.specs.Householder.{vector-4, entries-3, lower, turned-4, reflection-4, reflection-3, reflect-4, reflect-3, both, columns, factors};
+ghost use Rattle.qr.specs.Port.{vector-4, entries-3, lower, turned-4, reflection-4, reflection-3, reflect-4, reflect-3, both, columns, factors};
 
 // A reflection of vectors of four: by v, and by v·v. It is skipped where its part is zero.
 pub struct Reflection4 {

@@ -1,5 +1,6 @@
 -- What the solve call refuses. Document 01: "4. The family is not 1 to 6. 5. The arm is not 39 numbers. 6. The pose is not 12 numbers. 7. n is not 0 for
--- families 1 to 5, or not 1 to 400 for family 6. 8. A number of the arm or pose is infinite or NaN. .. The first that applies is given."
+-- families 1 to 5, or not 1 to 400 for family 6. 8. A number of the arm or pose is infinite or NaN. 9. The full list has more answers than the angle list has whole
+-- sixes, or more than the flag list has bytes. The first that applies is given." `judge` gives 4 to 8, `refusal-9` the last.
 use Prim.Native.Nat.{ℕ, suc}
 use mathlib.Core.Bool.{Bool, _&&_, cond}
 use mathlib.Core.List.{List, [], _∷_}

@@ -1,4 +1,4 @@
-// What the solve call refuses before it solves.
+// What the solve call refuses: 4 to 8 before it solves, 9 once the number of answers is known.
 ghost use mathlib.Core.Path.{_≡_};
 ghost use Prim.Native.Nat.{min};
 ghost use Rattle.refusals.specs.Judge.{within, samples-fit, first-not-finite, all-finite, judge, refusal-9};

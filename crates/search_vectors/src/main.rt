@@ -5,7 +5,8 @@
 // - the list of the search: the number of pairs, the evaluations, each pair in its order;
 // - the search's parts, run one after the other: what added each pair is seen from outside;
 // - the answers of family 6.
-// tools/make_search_vectors.sh made the stored searches; tools/compare_search.sh runs others.
+// tools/make/make_search_vectors.sh made the stored searches;
+// tools/compare/compare_search.sh runs others.
 mod family;
 mod list;
 

@@ -1,7 +1,7 @@
 // Compares the crate subproblems with outside results. Standard input has records of 64 words: the
 // id of a function, 40 words of arguments and 23 of results, as `oracle layout` has them.
 // `oracle cases subproblems 59 500` made the stored cases, in which subproblem5 has 0 to 16
-// candidates; tools/compare.sh runs others.
+// candidates; tools/compare/compare.sh runs others.
 const FUNCTIONS: u64 = 11;
 
 // The place of the first result.

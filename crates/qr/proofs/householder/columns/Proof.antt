@@ -2,7 +2,7 @@
 use mathlib.Core.Path.{_≡_}
 use mathlib.Core.List.{[], _∷_}
 use Rattle.float.specs.Num.{nought, one}
-use Rattle.qr.specs.Householder.{vector-4, both, columns}
+use Rattle.qr.specs.Port.{vector-4, both, columns}
 use Rattle.qr.specs.declared.Vector4.{Vector4}
 use Rattle.qr.specs.declared.householder.Reflection4.{Reflection4}
 use Rattle.qr.specs.declared.householder.Reflection3.{Reflection3}

@@ -1,5 +1,5 @@
 -- The calls' equations, joined.
-use Rattle.qr.specs.Householder.{factors}
+use Rattle.qr.specs.Port.{factors}
 use Rattle.qr.proofs.householder.factors.Statement.{statement}
 use Rattle.qr.proofs.householder.factors.Tie as tie
 

@@ -2,7 +2,7 @@
 use mathlib.Core.Path.{_≡_}
 use Rattle.linear.specs.declared.vector.Vector3.{Vector3}
 use Rattle.qr.specs.Qr.{qr}
-use Rattle.qr.specs.Householder.{lower, reflection-4, reflection-3, reflect-4, reflect-3, columns, factors}
+use Rattle.qr.specs.Port.{lower, reflection-4, reflection-3, reflect-4, reflect-3, columns, factors}
 use Rattle.qr.specs.declared.Vector4.{Vector4}
 use Rattle.qr.specs.declared.QrFactors.{QrFactors}
 use Rattle.qr.specs.declared.householder.Reflection4.{Reflection4}

@@ -5,7 +5,7 @@ use lib.Ieee.{Float}
 use Rattle.float.specs.Num.{_⊖_, _⊗_, _⊘_, two}
 use Rattle.linear.specs.Vector.{dot}
 use Rattle.linear.specs.declared.vector.Vector3.{Vector3}
-use Rattle.qr.specs.Householder.{lower, reflect-3}
+use Rattle.qr.specs.Port.{lower, reflect-3}
 use Rattle.qr.specs.declared.Vector4.{Vector4}
 use Rattle.qr.specs.declared.householder.Reflection3.{Reflection3}
 use Rattle.qr.proofs.householder.reflect_3.Statement.{statement}

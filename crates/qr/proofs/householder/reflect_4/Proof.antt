@@ -4,7 +4,7 @@ use mathlib.Core.Bool.{true, false}
 use lib.Ieee.{Float}
 use Rattle.float.specs.Num.{_⊖_, _⊗_, _⊘_, two}
 use Rattle.qr.specs.Qr.{entries, dot}
-use Rattle.qr.specs.Householder.{reflect-4}
+use Rattle.qr.specs.Port.{reflect-4}
 use Rattle.qr.specs.declared.Vector4.{Vector4}
 use Rattle.qr.specs.declared.householder.Reflection4.{Reflection4}
 use Rattle.qr.proofs.householder.reflect_4.Statement.{statement}

@@ -1,6 +1,6 @@
 -- The calls' equations, joined.
 use Rattle.linear.specs.Vector.{norm}
-use Rattle.qr.specs.Householder.{reflection-3}
+use Rattle.qr.specs.Port.{reflection-3}
 use Rattle.qr.proofs.householder.reflection_3.Statement.{statement}
 use Rattle.qr.proofs.householder.reflection_3.Tie as tie
 

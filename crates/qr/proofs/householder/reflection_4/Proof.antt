@@ -1,5 +1,5 @@
 -- The calls' equations, joined.
-use Rattle.qr.specs.Householder.{reflection-4}
+use Rattle.qr.specs.Port.{reflection-4}
 use Rattle.qr.proofs.householder.reflection_4.Statement.{statement}
 use Rattle.qr.proofs.householder.reflection_4.Tie as tie
 

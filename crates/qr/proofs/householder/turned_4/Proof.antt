@@ -2,7 +2,7 @@
 use mathlib.Core.Path.{_≡_}
 use mathlib.Core.Bool.{Bool, true, false}
 use lib.Ieee.{neg}
-use Rattle.qr.specs.Householder.{turned-4}
+use Rattle.qr.specs.Port.{turned-4}
 use Rattle.qr.specs.declared.Vector4.{Vector4}
 use Rattle.qr.proofs.householder.turned_4.Statement.{statement}
 use Rattle.qr.proofs.householder.turned_4.Tie as tie

@@ -5,7 +5,7 @@ use lib.Ieee.{eq}
 use Rattle.float.specs.Num.{nought}
 use Rattle.linear.specs.declared.vector.Vector3.{Vector3}
 use Rattle.qr.specs.Qr.{is-zero}
-use Rattle.qr.specs.Householder.{entries-3}
+use Rattle.qr.specs.Port.{entries-3}
 use Rattle.qr.proofs.householder.zero_3.Statement.{statement}
 use Rattle.qr.proofs.householder.zero_3.Tie as tie
 

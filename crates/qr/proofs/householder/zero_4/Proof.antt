@@ -6,7 +6,7 @@ use Rattle.float.specs.Num.{nought}
 use Rattle.linear.specs.declared.vector.Vector3.{Vector3}
 use Rattle.qr.specs.declared.Vector4.{Vector4}
 use Rattle.qr.specs.Qr.{entries, is-zero}
-use Rattle.qr.specs.Householder.{entries-3, lower}
+use Rattle.qr.specs.Port.{entries-3, lower}
 use Rattle.qr.proofs.householder.zero_4.Statement.{statement}
 use Rattle.qr.proofs.householder.zero_4.Tie as tie
 

@@ -1,4 +1,4 @@
--- `search::dip::best` meets its contract. Assumes nothing.
+-- `best` meets its contract. Assumes nothing.
 use Rattle.search_dip.specs.Valley.{valley}
 use Rattle.search_dip.proofs.DipSteps.{best-of}
 use Rattle.search_dip.proofs.dip.best.Statement.{statement}

@@ -1,4 +1,4 @@
--- `search::dip::depth` meets its contract. Assumes nothing.
+-- `depth` meets its contract. Assumes nothing.
 use borrow.Author.Needs.{needs}
 use Rattle.search_dip.proofs.DipSteps.{depth-finite, depth-infinite}
 use Rattle.search_dip.proofs.dip.depth.Statement.{statement}

@@ -1,4 +1,4 @@
--- `search::dip::left_of` meets its contract. Assumes nothing.
+-- `left_of` meets its contract. Assumes nothing.
 use mathlib.Core.Path.{refl}
 use Rattle.search_definition.specs.Dip.{left-of}
 use Rattle.search_dip.proofs.dip.left_of.Statement.{statement}

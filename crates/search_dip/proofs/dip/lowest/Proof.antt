@@ -1,4 +1,4 @@
--- `search::dip::lowest` meets its contract. Assumes nothing.
+-- `lowest` meets its contract. Assumes nothing.
 use mathlib.Core.Path.{ap}
 use Prim.Native.Nat.{_+_, _-_, _≤_}
 use native.Mathlib.Omega.{arith}

@@ -1,4 +1,4 @@
--- `search::dip::minimise_dip` meets its contract. Assumes nothing.
+-- `minimise_dip` meets its contract. Assumes nothing.
 use mathlib.Core.Path.{_≡_, refl, ap}
 use Prim.Native.Nat.{_≤_}
 use native.Mathlib.Omega.{arith}

@@ -1,4 +1,4 @@
--- `search::dip::moved` meets its contract. Assumes nothing.
+-- `moved` meets its contract. Assumes nothing.
 use borrow.Author.Needs.{needs}
 use Rattle.search_dip.specs.Valley.{valley}
 use Rattle.search_dip.proofs.DipSteps.{moved-left, moved-right}

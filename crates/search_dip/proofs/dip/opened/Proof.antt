@@ -1,4 +1,4 @@
--- `search::dip::opened` meets its contract. Assumes nothing.
+-- `opened` meets its contract. Assumes nothing.
 use borrow.Author.Needs.{needs}
 use Rattle.search_dip.proofs.DipSteps.{opened-of}
 use Rattle.search_dip.proofs.dip.opened.Statement.{statement}

@@ -1,4 +1,4 @@
--- `search::dip::right_of` meets its contract. Assumes nothing.
+-- `right_of` meets its contract. Assumes nothing.
 use mathlib.Core.Path.{refl}
 use Rattle.search_definition.specs.Dip.{right-of}
 use Rattle.search_dip.proofs.dip.right_of.Statement.{statement}

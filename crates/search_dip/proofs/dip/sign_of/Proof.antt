@@ -1,4 +1,4 @@
--- `search::dip::sign_of` meets its contract. Assumes nothing.
+-- `sign_of` meets its contract. Assumes nothing.
 use Rattle.search_definition.specs.Refine.{negative}
 use Rattle.search_definition.specs.Dip.{sign-of}
 use Rattle.search_dip.proofs.dip.sign_of.Statement.{statement}

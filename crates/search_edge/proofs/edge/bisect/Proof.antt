@@ -1,4 +1,4 @@
--- `search::edge::bisect` meets its contract. Assumes nothing.
+-- `bisect` meets its contract. Assumes nothing.
 use mathlib.Core.Path.{_≡_, refl, ap}
 use Prim.Native.Nat.{_+_, _-_, _≤_}
 use native.Mathlib.Omega.{arith}

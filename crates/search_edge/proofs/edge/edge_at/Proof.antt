@@ -1,4 +1,4 @@
--- `search::edge::edge_at` meets its contract. Assumes nothing.
+-- `edge_at` meets its contract. Assumes nothing.
 use mathlib.Core.Path.{refl}
 use denote.Ref.{now}
 use borrow.Author.Needs.{needs}

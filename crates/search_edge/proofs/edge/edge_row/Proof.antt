@@ -1,4 +1,4 @@
--- `search::edge::edge_row` meets its contract: the row so far, and what the definition still takes, is the definition's row. Assumes nothing.
+-- `edge_row` meets its contract: the row so far, and what the definition still takes, is the definition's row. Assumes nothing.
 use mathlib.Core.Path.{_≡_, sym, _∙_}
 use Prim.Native.Nat.{_+_, _-_, _≤_}
 use native.Mathlib.Omega.{arith}

@@ -1,4 +1,4 @@
--- `search::edge::halved` meets its contract. Assumes nothing.
+-- `halved` meets its contract. Assumes nothing.
 use borrow.Author.Needs.{needs}
 use Rattle.search_definition.specs.Search.{mid}
 use Rattle.search_error.specs.Fixed.{error-at}

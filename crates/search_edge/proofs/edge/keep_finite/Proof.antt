@@ -1,4 +1,4 @@
--- `search::edge::keep_finite` meets its contract. Assumes nothing.
+-- `keep_finite` meets its contract. Assumes nothing.
 use native.Mathlib.Omega.{arith}
 use denote.Ref.{now}
 use borrow.Author.Needs.{needs}

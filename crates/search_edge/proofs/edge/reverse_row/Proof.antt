@@ -1,4 +1,4 @@
--- `search::edge::reverse_row` meets its contract. Assumes nothing.
+-- `reverse_row` meets its contract. Assumes nothing.
 use mathlib.Core.Path.{_≡_, refl}
 use Prim.Native.Nat.{ℕ, _-_, _≤_, _<_}
 use native.Mathlib.Omega.{arith}

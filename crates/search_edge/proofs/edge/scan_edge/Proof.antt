@@ -1,4 +1,4 @@
--- `search::edge::scan_edge` meets its contract. Assumes nothing.
+-- `scan_edge` meets its contract. Assumes nothing.
 use mathlib.Core.Path.{_≡_, refl, ap, ap₂, _∙_}
 use Prim.Native.Nat.{_+_, _≤_}
 use native.Mathlib.Omega.{arith}

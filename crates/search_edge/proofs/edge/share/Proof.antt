@@ -1,4 +1,4 @@
--- `search::edge::share` meets its contract. Assumes nothing.
+-- `share` meets its contract. Assumes nothing.
 use Rattle.search_definition.specs.Search.{share}
 use Rattle.search_edge.proofs.edge.share.Statement.{statement}
 use Rattle.search_edge.proofs.edge.share.Tie as tie

@@ -1,4 +1,4 @@
--- `search::refine::refine_bracket` meets its contract: each way out of the loop, and each way on, is a step of the definition. Assumes nothing.
+-- `refine_bracket` meets its contract: each way out of the loop, and each way on, is a step of the definition. Assumes nothing.
 use mathlib.Core.Path.{_≡_, ap, _∙_}
 use mathlib.Core.Bool.{Bool, true, false, Bool·beq}
 use mathlib.Core.List.{[], _∷_}

@@ -1,4 +1,4 @@
--- `search::scan::crosses` meets its contract. Assumes nothing.
+-- `crosses` meets its contract. Assumes nothing.
 use mathlib.Core.Path.{refl}
 use Rattle.search_definition.specs.Refine.{negative}
 use Rattle.search_definition.specs.Scan.{alike, crosses}

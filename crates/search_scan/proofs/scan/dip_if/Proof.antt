@@ -1,4 +1,4 @@
--- `search::scan::dip_if` meets its contract. Assumes nothing.
+-- `dip_if` meets its contract. Assumes nothing.
 use denote.Ref.{now}
 use borrow.Author.Needs.{needs}
 use Rattle.search_error.specs.Fixed.{error-at}

@@ -1,4 +1,4 @@
--- `search::scan::dips` meets its contract. Assumes nothing.
+-- `dips` meets its contract. Assumes nothing.
 use Rattle.search_definition.specs.Refine.{negative}
 use Rattle.search_scan.proofs.ScanSteps.{dips-is}
 use Rattle.search_scan.proofs.scan.dips.Statement.{statement}

@@ -1,4 +1,4 @@
--- `search::scan::falls_to` meets its contract. Assumes nothing.
+-- `falls_to` meets its contract. Assumes nothing.
 use Rattle.search_definition.specs.Refine.{negative}
 use Rattle.search_scan.proofs.ScanSteps.{falls-to-is}
 use Rattle.search_scan.proofs.scan.falls_to.Statement.{statement}

@@ -1,4 +1,4 @@
--- `search::scan::scan_item` meets its contract. Assumes nothing.
+-- `scan_item` meets its contract. Assumes nothing.
 use Prim.Native.Nat.{suc, _+_, _-_}
 use native.Mathlib.Omega.{arith}
 use denote.Ref.{now}

@@ -1,4 +1,4 @@
--- `search::scan::scan_samples` meets its contract: at the loop's head, what is left of the row after the state now is the whole row's items after the state at entry. Assumes nothing.
+-- `scan_samples` meets its contract: at the loop's head, what is left of the row after the state now is the whole row's items after the state at entry. Assumes nothing.
 use mathlib.Core.Path.{_≡_, refl, _∙_, ap}
 use Prim.Native.Nat.{ℕ, _+_, _-_, _*_, _≤_, _<_}
 use native.Mathlib.Omega.{arith}

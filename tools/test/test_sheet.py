@@ -1,0 +1,471 @@
+#!/usr/bin/env python3
+"""Tests of sheet.py and blocks.py: the block's layout, the sheet's words, every message, the tables.
+
+    python3 tools/test/test_sheet.py
+
+Those that compare with the reference program are left out where it was not built.
+"""
+
+import contextlib
+import io
+import math
+import os
+import pathlib
+import struct
+import subprocess
+import sys
+import tempfile
+import unittest
+
+TOOLS = pathlib.Path(__file__).resolve().parents[1]
+sys.path[:0] = [str(TOOLS), str(TOOLS / "measure")]
+import blocks
+import sheet
+import trial
+
+ORACLE = blocks.ROOT / "oracle" / "target" / "release" / "oracle"
+ARM = """family 1
+h1 0 0 1
+h2 0 1 0
+h3 0 1 0
+h4 0 0 1
+h5 0 1 0
+h6 0 0 1
+p0 0 0 0.6718
+p1 0 0.2435 0
+p2 0.4318 -0.0934 0
+p3 -0.0203 0 0.4331
+p4 0 0 0
+p5 0 0 0
+p6 0 0 0.0563
+"""
+ARM_LINES = len(ARM.splitlines())
+POSE = """pose first
+row 1 0 0
+row 0 1 0
+row 0 0 1
+place 0.3 0.2 0.9
+"""
+ARM_6 = ARM.replace("family 1", "family 6\nn 200")
+
+
+def words(block):
+    return struct.unpack("<64Q", block)
+
+
+def doubles(block):
+    return struct.unpack("<64d", block)
+
+
+class Layout(unittest.TestCase):
+    def test_known_check_words(self):
+        for family, n, check in ((3, 0, 3), (6, 200, 51206), (9, 0, 9)):
+            block = blocks.make(family, n, [0.0] * 39, [0.0] * 12)
+            self.assertEqual(len(block), 512)
+            self.assertEqual(words(block)[63], check)
+            self.assertEqual(words(block)[0], family + 256 * n)
+
+    def test_places_of_the_numbers(self):
+        block = blocks.make(2, 0, [float(i) for i in range(1, 40)], [float(i) for i in range(40, 52)])
+        self.assertEqual(list(doubles(block)[1:52]), [float(i) for i in range(1, 52)])
+        self.assertEqual(words(block)[52:63], (0,) * 11)
+        self.assertEqual(words(block)[63], sum(words(block)[:63]) % 2**64)
+
+    def test_counts_are_held(self):
+        with self.assertRaises(ValueError):
+            blocks.make(1, 0, [0.0] * 38, [0.0] * 12)
+        with self.assertRaises(ValueError):
+            blocks.make(1, 0, [0.0] * 39, [0.0] * 13)
+
+    def test_check_wraps(self):
+        block = blocks.repaired(b"\xff" * 512)
+        self.assertEqual(words(block)[63], 63 * (2**64 - 1) % 2**64)
+
+
+class Reading(unittest.TestCase):
+    def test_words_and_numbers(self):
+        made = sheet.parse(ARM + POSE)
+        self.assertEqual((made.family, made.n, len(made.poses)), (1, 0, 1))
+        block = made.to_blocks()
+        self.assertEqual(doubles(block)[1:4], (0, 0, 1))
+        self.assertEqual(doubles(block)[19:22], (0, 0, 0.6718))
+        self.assertEqual(doubles(block)[37:40], (0, 0, 0.0563))
+        self.assertEqual(doubles(block)[40:49], (1, 0, 0, 0, 1, 0, 0, 0, 1))
+        self.assertEqual(doubles(block)[49:52], (0.3, 0.2, 0.9))
+
+    def test_nearest_f64_of_what_is_written(self):
+        text = POSE.replace("0.3 0.2 0.9", "0.1000000000000000055511151231257827 -0.0 4.9e-324")
+        block = sheet.parse(ARM + text).to_blocks()
+        self.assertEqual(words(block)[49], 0x3FB999999999999A)
+        self.assertEqual(words(block)[50], 1 << 63)
+        self.assertEqual(words(block)[51], 1)
+
+    def test_order_case_and_comments_do_not_matter(self):
+        lines = ARM.splitlines()
+        turned = "\n".join(["# a sheet", ""] + lines[::-1]).replace("h1 0", "H1\t0 ") + " # the end\n"
+        self.assertEqual(sheet.parse(turned + POSE).to_blocks(), sheet.parse(ARM + POSE).to_blocks())
+
+    def test_families_by_number_and_name(self):
+        for number, name in sheet.FAMILIES.items():
+            n = "n 7\n" if number == 6 else ""
+            for text in (str(number), name, name.upper(), name.replace("_", " "), name.replace("_", "-")):
+                arm = ARM.replace("family 1", f"{n}family {text}")
+                self.assertEqual(sheet.parse(arm + POSE).family, number)
+
+    def test_n_goes_into_the_block(self):
+        for n in (1, 255, 256, 400):
+            made = sheet.parse(ARM_6.replace("n 200", f"n {n}") + POSE)
+            self.assertEqual(made.to_blocks()[:3], bytes([6, n % 256, n // 256]))
+
+    def test_a_pose_without_a_name(self):
+        text = POSE.replace("pose first", "pose")
+        self.assertEqual([p.name for p in sheet.parse(ARM + text + text).poses], ["number 1", "number 2"])
+
+    def test_roll_pitch_yaw(self):
+        half = math.sqrt(0.5)
+        cases = {
+            "90 0 0": (1, 0, 0, 0, 0, -1, 0, 1, 0),
+            "0 90 0": (0, 0, 1, 0, 1, 0, -1, 0, 0),
+            "0 0 90": (0, -1, 0, 1, 0, 0, 0, 0, 1),
+            # Roll first, then yaw about the base's z: the tool's y goes to z and stays there.
+            "90 0 90": (0, 0, 1, 1, 0, 0, 0, 1, 0),
+            "0 45 90": (0, -1, 0, half, 0, half, -half, 0, half),
+        }
+        for rpy, rows in cases.items():
+            text = f"pose\nrpy {rpy}\nplace 0 0 0\n"
+            for got, wanted in zip(doubles(sheet.parse(ARM + text).to_blocks())[40:49], rows):
+                self.assertAlmostEqual(got, wanted, places=14)
+
+    def test_from_angles_at_zero(self):
+        block = sheet.parse(ARM + "pose\nfrom angles 0 0 0 0 0 0\n").to_blocks()
+        self.assertEqual(doubles(block)[40:49], (1, 0, 0, 0, 1, 0, 0, 0, 1))
+        for got, wanted in zip(doubles(block)[49:52], (0.4115, 0.1501, 1.1612)):
+            self.assertAlmostEqual(got, wanted, places=14)
+
+    def test_from_angles_about_the_first_axis(self):
+        block = sheet.parse(ARM + "pose\nfrom angles 90 0 0 0 0 0\n").to_blocks()
+        for got, wanted in zip(doubles(block)[49:52], (-0.1501, 0.4115, 1.1612)):
+            self.assertAlmostEqual(got, wanted, places=14)
+
+
+class Messages(unittest.TestCase):
+    def refuses(self, text, line, *parts):
+        with self.assertRaises(sheet.SheetError) as caught:
+            sheet.parse(text)
+        message = str(caught.exception)
+        self.assertTrue(message.startswith(f"line {line}: "), message)
+        for part in parts:
+            self.assertIn(part, message)
+
+    def test_unknown_word(self):
+        self.refuses(ARM + "speed 3\n" + POSE, ARM_LINES + 1, "unknown word 'speed'")
+        self.refuses(ARM.replace("h6", "h7") + POSE, 7, "unknown word 'h7'")
+        self.refuses(ARM.replace("p6", "p7") + POSE, 14, "unknown word 'p7'")
+
+    def test_wrong_count(self):
+        self.refuses(ARM.replace("h2 0 1 0", "h2 0 1") + POSE, 3, "h2 takes 3 numbers, and here are 2")
+        self.refuses(ARM + POSE.replace("0.3 0.2", "0.3"), ARM_LINES + 5, "place takes 3", "are 2")
+        self.refuses(ARM + POSE.replace("row 1 0 0", "row 1 0 0 0"), ARM_LINES + 2, "row takes 3", "are 4")
+        self.refuses(ARM + "pose\nfrom angles 1 2 3 4 5\n", ARM_LINES + 2, "angles takes 6", "are 5")
+        self.refuses(ARM + "pose\nrpy 1 2\n", ARM_LINES + 2, "rpy takes 3", "are 2")
+        self.refuses(ARM_6.replace("n 200", "n") + POSE, 2, "n takes one number")
+
+    def test_not_a_number(self):
+        for bad in ("o", "0x1", "1_000", "nan", "inf", "--1", "1e", ".", "٣"):
+            self.refuses(ARM.replace("h2 0 1 0", f"h2 0 {bad} 0") + POSE, 3, f"'{bad}' is not a number")
+        self.refuses(ARM.replace("0.6718", "0,6718") + POSE, 8, "'0,6718'", "a point, not a comma")
+        self.refuses(ARM.replace("0.6718", "1e999") + POSE, 8, "too large")
+
+    def test_family(self):
+        for bad in ("0", "7", "-1", "round", "", "11", "9" * 5000):
+            self.refuses(ARM.replace("family 1", f"family {bad}") + POSE, 1, "is no family", "6 two_parallel")
+        self.refuses(ARM.replace("family 1\n", "") + POSE, ARM_LINES + 4, "no family")
+
+    def test_missing_arm(self):
+        self.refuses("family 1\n" + POSE, 6, "of the arm is missing", "h1", "p6")
+        self.refuses(ARM.replace("p3", "#p3") + POSE, ARM_LINES + 5, "is missing: p3")
+
+    def test_n(self):
+        for bad in ("0", "401", "65536", "999999999"):
+            self.refuses(ARM_6.replace("n 200", f"n {bad}") + POSE, 2, f"n is {bad}", "1 to 400")
+        for bad in ("-1", "2.5", "many", "9" * 5000):
+            self.refuses(ARM_6.replace("n 200", f"n {bad}") + POSE, 2, "whole number")
+        self.refuses(ARM_6.replace("n 200\n", "") + POSE, ARM_LINES + 5, "family 6 needs n")
+        self.refuses(ARM + "n 200\n" + POSE, ARM_LINES + 1, "family 6 alone")
+
+    def test_twice(self):
+        self.refuses(ARM + "h1 0 0 1\n" + POSE, ARM_LINES + 1, "h1 stands on line 2 already")
+        self.refuses(ARM + "family 2\n" + POSE, ARM_LINES + 1, "family stands on line 1")
+        self.refuses(ARM + POSE + "place 0 0 0\n", ARM_LINES + 6, "'place' already")
+        self.refuses(ARM + POSE + "row 0 0 1\n", ARM_LINES + 6, "the fourth")
+
+    def test_poses(self):
+        first = ARM_LINES + 1
+        self.refuses(ARM, ARM_LINES, "has no pose")
+        self.refuses(ARM + "place 0 0 0\n", first, "belongs to a pose")
+        self.refuses(ARM + "pose a\n", first, "'a' has no rotation")
+        self.refuses(ARM + "pose a\nplace 0 0 0\n" + POSE, first, "'a' has no rotation")
+        self.refuses(ARM + "pose a\nrpy 0 0 0\n", first, "'a' has no place")
+        self.refuses(ARM + "pose a\nrow 0 0 1\nplace 0 0 0\n", first, "1 rows, and needs three")
+        self.refuses(ARM + POSE + "rpy 0 0 0\n", first, "rows and rpy")
+        self.refuses(ARM + POSE + "from angles 0 0 0 0 0 0\n", first, "angles and a rotation")
+        self.refuses(ARM + "pose a\nfrom 0 0 0 0 0 0\n", first + 1, "'from' is followed by 'angles'")
+
+    def test_an_empty_sheet(self):
+        self.refuses("", 1, "no family")
+
+    def test_notes(self):
+        self.assertEqual(sheet.notes(sheet.parse(ARM + POSE)), [])
+        bent = ARM.replace("h3 0 1 0", "h3 0 2 0").replace("p5 0 0 0", "p5 0 0 1")
+        found = sheet.notes(sheet.parse(bent + POSE.replace("row 1 0 0", "row 1 0.1 0")))
+        self.assertEqual(len(found), 4, found)
+        mirror = sheet.notes(sheet.parse(ARM + POSE.replace("row 1", "row -1")))
+        self.assertIn("mirror", mirror[0])
+
+
+    def meeting(self, family, axes, **offsets):
+        """The notes of an arm with axes along x, y and z and offsets across all of them but those given."""
+        along = {"x": "1 0 0", "y": "0 1 0", "z": "0 0 1", "s": "0 0.6 0.8"}
+        lines = [f"family {family}"] + (["n 1"] if family == 6 else [])
+        lines += [f"h{i} {along[c]}" for i, c in enumerate(axes, 1)]
+        for name in sheet.OFFSETS:
+            zero = name in sheet.ZERO_OFFSETS.get(family, [])
+            lines.append(f"{name} " + offsets.get(name, "0 0 0" if zero else "0.1 0.2 0.3"))
+        return sheet.notes(sheet.parse("\n".join(lines) + "\n" + POSE))
+
+    def test_notes_of_axes_that_meet(self):
+        self.assertEqual(self.meeting(3, "zysxyx"), [])
+        self.assertIn("axes 2 and 3 meet", self.meeting(3, "zysxyx", p2="0 0.02 0.56")[0])
+        self.assertIn("axes 1 and 2 meet", self.meeting(3, "zysxyx", p1="0 0.1 0.2")[0])
+        self.assertIn("axes 2 and 3 are parallel", self.meeting(3, "zyyxyx")[0])
+
+    def test_notes_of_a_joint_whose_zero_matters(self):
+        """Axes i and i + 1 meet: in one plane with axis 2 nothing is found, else most is."""
+        self.assertEqual(self.meeting(5, "zxxxzx"), [])
+        self.assertIn("empty or NaN", self.meeting(5, "zxxxzx", p5="0.04 0 0.03")[0])
+        self.assertEqual(self.meeting(5, "zxxxzy", p5="0 0.04 0.03"), [])
+        self.assertEqual(self.meeting(6, "zyyxyx"), [])
+        self.assertIn("every list is empty", self.meeting(6, "zyyxyx", p4="0.47 0.03 0")[0])
+        self.assertEqual(self.meeting(6, "zyyxsx", p4="0.47 0 0"), [])
+        self.assertEqual(self.meeting(6, "zyyxzx", p4="0.47 0 0"), [])
+        self.assertIn("answers are missing", self.meeting(6, "zyyxzx", p4="0.47 0 0", p5="0.1 0 0.2")[0])
+
+    def test_notes_of_axes_that_meet_at_another_angle(self):
+        """A Jaco2 has 60 degrees; with the zero of joint 4 moved there is nothing to note."""
+        made = sheet.parse(ARM_6 + POSE)
+        made.arm = trial.jaco()
+        self.assertIn("every list is empty; move that zero", sheet.notes(made)[0])
+        made.arm, _ = trial.moved_zero(trial.jaco(), 4, 0.3)
+        self.assertEqual(sheet.notes(made), [])
+        slanted = self.meeting(5, "zyyyzs", p5="0 0.06 0.08")
+        self.assertIn("axes 5 and 6 meet", slanted[0])
+
+    def test_notes_of_parallel_axes(self):
+        for family, axes, i in ((1, "yyyzyz", 1), (2, "zyxzzx", 4), (4, "zyyyzz", 5), (6, "zyyyzx", 3)):
+            self.assertIn(f"axes {i} and {i + 1} are parallel", self.meeting(family, axes)[0])
+
+    def test_notes_of_axes_of_opposite_sense(self):
+        turned = ARM.replace("h3 0 1 0", "h3 0 -1 0") + POSE
+        self.assertEqual(sheet.notes(sheet.parse(turned)), [])
+        six = sheet.notes(sheet.parse(turned.replace("family 1", "family 6\nn 200")))
+        self.assertIn("h2 = h3; h3 is not read", six[0])
+
+
+def line(angles, flag):
+    return " ".join(struct.pack(">d", a).hex() for a in angles) + f" {flag}"
+
+
+class Tables(unittest.TestCase):
+    def shown(self, text, lines):
+        made = sheet.parse(text)
+        return "\n".join(sheet.show(made, sheet.read_results(lines, len(made.poses))))
+
+    def test_answers(self):
+        lines = ["block 0 refusal 0 answers 3 evals 0",
+                 line([math.pi, -math.pi / 2, 0.0, -0.0, 1e-9, -1e-9], 0),
+                 line([0.5] * 6, 1), line([math.nan] * 6, 0)]
+        text = self.shown(ARM + POSE, lines)
+        self.assertIn("Pose 1, first: 3 answers", text)
+        rows = text.splitlines()[4:7]
+        self.assertEqual(rows[0].split()[:7],
+                         ["1", "180.0000", "-90.0000", "0.0000", "0.0000", "0.0000", "0.0000"])
+        self.assertIn("MISSES the pose: ", rows[0])
+        self.assertTrue(rows[0].endswith("degrees (no flag)"), rows[0])
+        self.assertIn("28.6479", rows[1])
+        self.assertIn("   least squares; MISSES the pose: ", rows[1])
+        self.assertIn("NaN", rows[2])
+        self.assertIn("NO ANSWER: not a number", rows[2])
+        self.assertNotIn("MISSES", rows[2])
+        self.assertIn("None of these makes the pose", text)
+        self.assertNotIn("evaluation", text)
+
+    def marks(self, flag, *angles):
+        """The remark on an answer to the pose at zero angles."""
+        lines = ["block 0 refusal 0 answers 1 evals 0", line([math.radians(a) for a in angles], flag)]
+        text = self.shown(ARM + "pose\nfrom angles 0 0 0 0 0 0\n", lines)
+        return text.splitlines()[4][93:].strip(), "None of these" in text
+
+    def test_marks(self):
+        self.assertEqual(self.marks(0, 0, 0, 0, 0, 0, 0), ("", False))
+        self.assertEqual(self.marks(1, 0, 0, 0, 0, 0, 0), ("least squares, but it makes the pose", False))
+        self.assertEqual(self.marks(0, 0, 0, 0, 0, 0, 90), ("MISSES the pose: turned by 90 degrees (no flag)", True))
+        self.assertEqual(self.marks(1, 0, 0, 0, 0, 0, 90), ("least squares; MISSES the pose: turned by 90 degrees", True))
+        self.assertIn(" away, turned by 90 degrees", self.marks(0, 90, 0, 0, 0, 0, 0)[0])
+
+    def test_how_far_off_is_a_miss(self):
+        self.assertEqual(self.marks(0, 0, 0, 0, 0, 0, 0.9e-4), ("", False))
+        self.assertEqual(self.marks(0, 0, 0, 0, 0, 0, 1.1e-4), ("MISSES the pose: turned by 0.00011 degrees (no flag)", True))
+        # The place alone: joints 1 and 6 turn about parallel axes here, and undo each other's turn.
+        size = sum(math.hypot(*trial.named("puma")[name]) for name in sheet.OFFSETS)
+        reach = math.hypot(0.4318 - 0.0203, 0.2435 - 0.0934)
+        for part, missed in ((0.9e-6, False), (1.1e-6, True)):
+            turn = math.degrees(part * size / reach)
+            self.assertEqual(" away" in self.marks(0, turn, 0, 0, 0, 0, -turn)[0], missed)
+
+    def test_how_far_off(self):
+        text = ARM + "pose\nfrom angles 0 0 0 0 0 0\n"
+        lines = ["block 0 refusal 0 answers 1 evals 0", line([0, 0, 0, 0, 0, math.pi / 2], 0)]
+        row = self.shown(text, lines).splitlines()[4].split()
+        self.assertLess(float(row[7]), 1e-15)
+        self.assertEqual(row[8], "9.0e+01")
+
+    def test_an_infinite_angle_is_no_failure(self):
+        lines = ["block 0 refusal 0 answers 1 evals 0", line([math.inf] + [0] * 5, 1)]
+        self.assertIn("not a number", self.shown(ARM + POSE, lines))
+
+    def test_evaluations(self):
+        text = self.shown(ARM_6 + POSE, ["block 0 refusal 0 answers 0 evals 1201"])
+        self.assertIn("n = 200", text)
+        self.assertIn("0 answers, 1,201 evaluations of the search error", text)
+
+    def test_an_empty_list_is_no_verdict(self):
+        lines = ["block 0 refusal 0 answers 0 evals 0"]
+        self.assertIn("This does not say that the pose is out of reach", self.shown(ARM_6 + POSE, lines))
+
+    def test_every_refusal_in_words(self):
+        for refusal in range(1, 9):
+            text = self.shown(ARM + POSE, [f"block 0 refusal {refusal} answers 0 evals 0"])
+            self.assertIn(f"refused ({refusal}): {sheet.REFUSALS[refusal]}", text)
+
+    def test_refusal_9_shows_the_first_answers(self):
+        lines = ["block 0 refusal 9 answers 1432 evals 24646"] + [line([0.0] * 6, 0)] * 1024
+        text = self.shown(ARM_6 + POSE, lines)
+        self.assertIn("1,432 answers", text)
+        self.assertIn("refused (9)", text)
+        self.assertIn("the first 1,024 are here", text)
+
+    def test_lines_that_do_not_fit(self):
+        good = "block 0 refusal 0 answers 0 evals 0"
+        for lines in ([], [good, good], ["block 1 refusal 0 answers 0 evals 0"], ["Segmentation fault"],
+                      ["block 0 refusal 0 answers 1 evals 0"],
+                      ["block 0 refusal 0 answers 1 evals 0", line([0.0] * 5, 0)]):
+            with self.assertRaises(sheet.BadLines):
+                sheet.read_results(lines, 1)
+
+
+class CommandLine(unittest.TestCase):
+    def run_sheet(self, text, *options):
+        with tempfile.TemporaryDirectory() as folder:
+            path = pathlib.Path(folder) / "a.sheet"
+            path.write_bytes(text if isinstance(text, bytes) else text.encode())
+            out, err = io.StringIO(), io.StringIO()
+            with contextlib.redirect_stdout(out), contextlib.redirect_stderr(err):
+                try:
+                    status = sheet.main([*options, str(path)])
+                except SystemExit as ended:
+                    status = ended.code
+            return status, out.getvalue(), err.getvalue()
+
+    def test_a_bad_sheet_ends_with_2(self):
+        status, out, err = self.run_sheet(ARM + "speed 3\n")
+        self.assertEqual((status, out), (2, ""))
+        self.assertIn("a.sheet, line 15: unknown word 'speed'", err)
+
+    def test_no_text_ends_with_2(self):
+        status, _, err = self.run_sheet(b"\xff\xfe\x00")
+        self.assertEqual(status, 2)
+        self.assertIn("no text file", err)
+        self.assertEqual(self.run_sheet("", "--nonsense")[0], 2)
+
+    def test_a_missing_program_ends_with_1(self):
+        status, _, err = self.run_sheet(ARM + POSE, "--program", "/no/such/program")
+        self.assertEqual(status, 1)
+        self.assertIn("/no/such/program", err)
+
+    def test_a_failing_program_ends_with_1(self):
+        self.assertEqual(self.run_sheet(ARM + POSE, "--program", "false")[0], 1)
+        status, _, err = self.run_sheet(ARM + POSE, "--program", "echo nonsense")
+        self.assertEqual(status, 1)
+        self.assertIn("no line of block 0", err)
+
+    def test_blocks_are_written_and_lines_shown(self):
+        with tempfile.TemporaryDirectory() as folder:
+            path = os.path.join(folder, "blocks")
+            status, out, _ = self.run_sheet(ARM + POSE, "--blocks", path, "--lines", "--program", "echo it")
+            self.assertEqual((status, out), (0, "it\n"))
+            self.assertEqual(pathlib.Path(path).read_bytes(), sheet.parse(ARM + POSE).to_blocks())
+
+
+@unittest.skipUnless(ORACLE.exists(), "the reference program is not built")
+class WithOracle(unittest.TestCase):
+    def oracle(self, *arguments, given=b""):
+        return subprocess.run([ORACLE, *arguments], input=given, capture_output=True, check=True).stdout
+
+    def test_the_three_known_blocks(self):
+        given = b"".join(blocks.make(f, n, [0.0] * 39, [0.0] * 12) for f, n in ((3, 0), (6, 200), (9, 0)))
+        self.assertEqual(self.oracle("blocks", given=given).decode(),
+                         "block 0 refusal 0 answers 0 evals 0\n"
+                         "block 1 refusal 0 answers 0 evals 201\n"
+                         "block 2 refusal 4 answers 0 evals 0\n")
+
+    def sheet_of(self, block):
+        numbers = [repr(x) for x in doubles(block)]
+        threes = [" ".join(numbers[i : i + 3]) for i in range(1, 52, 3)]
+        lines = [f"family {block[0]}"] + ([f"n {block[1] + 256 * block[2]}"] if block[0] == 6 else [])
+        lines += [f"{name} {three}" for name, three in zip(sheet.AXES + sheet.OFFSETS, threes)]
+        return "\n".join(lines + ["pose"] + [f"row {three}" for three in threes[13:16]] + [f"place {threes[16]}"])
+
+    def test_every_block_can_be_written_as_a_sheet(self):
+        for kind in ("reachable", "random", "hostile"):
+            for family in "123456":
+                made = self.oracle("generate", kind, family, "5", "40")
+                for at in range(0, len(made), 512):
+                    block = made[at : at + 512]
+                    self.assertEqual(sheet.parse(self.sheet_of(block)).to_blocks(), block)
+
+    def test_from_angles_gives_the_poses_of_the_generator(self):
+        for family in "123456":
+            made = self.oracle("generate", "reachable", family, "6", "40")
+            angles = self.oracle("angles", "reachable", family, "6", "40").decode().splitlines()
+            for place, text in enumerate(angles):
+                numbers = doubles(made[512 * place : 512 * place + 512])
+                names = sheet.AXES + sheet.OFFSETS
+                arm = {name: numbers[1 + 3 * i : 4 + 3 * i] for i, name in enumerate(names)}
+                radians = [struct.unpack(">d", bytes.fromhex(word))[0] for word in text.split()]
+                rotation, where = sheet.forward(arm, radians)
+                got = [x for row in rotation for x in row] + where
+                size = max(1.0, *(abs(x) for x in numbers[49:52]))
+                self.assertLess(max(abs(x - y) for x, y in zip(got, numbers[40:52])) / size, 1e-12)
+
+    def test_the_stored_lines_of_the_example(self):
+        folder = blocks.ROOT / "tools"
+        given = sheet.parse((folder / "example.sheet").read_text()).to_blocks()
+        self.assertEqual(self.oracle("blocks", given=given), (folder / "example.lines").read_bytes())
+
+    def test_the_examples(self):
+        program = f"{ORACLE} blocks"
+        for name in ("example.sheet", "example6.sheet"):
+            made = sheet.parse((blocks.ROOT / "tools" / name).read_text())
+            self.assertEqual(sheet.notes(made), [])
+            results = sheet.read_results(blocks.run(blocks.command(program), made.to_blocks()), len(made.poses))
+            for pose, result in zip(made.poses, results):
+                off = [sheet.distance(made, pose, a) for a, flag in result.angles if not flag]
+                self.assertEqual(result.refusal, 0)
+                self.assertEqual(bool(off), pose.name != "out of reach")
+                self.assertLess(max((away for away, _ in off), default=0), 1e-8)
+                turned = sum(turn > 1e-6 for _, turn in off)
+                self.assertEqual(turned, 2 if pose.name.startswith("wrist straight") else 0)
+
+
+if __name__ == "__main__":
+    unittest.main()
