@@ -9,7 +9,7 @@ use lib.Ieee.{Float}
 use lib.ListN.{length, length-map}
 use Rattle.kinematics.specs.Kinematics.{from-numbers}
 use Rattle.kinematics.specs.Pose.{pose-rotation, pose-place}
-use Rattle.search_definition.specs.Found.{Out, Pair, pair-of, pairs}
+use Rattle.search_definition.specs.Found.{Out, pair-of, pairs}
 use Rattle.search_definition.specs.Demand.{Demand3}
 use Rattle.search_definition.proofs.Demand.{demand-3}
 use Rattle.search_error.proofs.Strict.{strict}

@@ -41,7 +41,7 @@ module _ (n : ℕ) (arm pose : List Float) where
 
   -- the number of subproblem 6's answers at q1
   abbrev pub answered : Float → ℕ
-  answered = Error.answers kin r-06 p-0t
+  answered = Error.t64-count kin r-06 p-0t
 
   -- what anybody may lend
   pub record Finite : Type 0 where
