@@ -2,8 +2,8 @@
 use Prim.Native.Nat.{_-_}
 use native.Mathlib.Omega.{arith}
 use borrow.Author.Needs.{needs}
-use Rattle.search_parts.proofs.rows.component.Statement.{statement}
-use Rattle.search_parts.proofs.rows.component.Tie as tie
+use Rattle.search_vectors.proofs.rows.component.Statement.{statement}
+use Rattle.search_vectors.proofs.rows.component.Tie as tie
 
 abbrev Inv-loop : tie.InvT-loop
 Inv-loop given i n xs ys qs₀ cs₀ rows₀ g₀ k₀ qs cs rows g k = Unit {0}

@@ -72,7 +72,7 @@ fn edge(
 }
 
 // All rows of one component.
-pub fn component(
+pub(crate) fn component(
     given: Given,
     i: u8,
     n: usize,

@@ -138,7 +138,7 @@ fn in_edge(given: Given, i: u8, x: f64, y: f64, out: f64, book: &[u8; 1830400], 
 }
 
 // Pair j is from the grid's samples of component i, or from an edge between two of them.
-pub fn right(
+pub(crate) fn right(
     given: Given,
     i: u8,
     n: usize,

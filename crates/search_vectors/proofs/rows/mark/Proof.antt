@@ -2,8 +2,8 @@
 use Prim.Native.Nat.{_-_}
 use native.Mathlib.Omega.{arith}
 use borrow.Author.Needs.{needs}
-use Rattle.search_parts.proofs.rows.mark.Statement.{statement}
-use Rattle.search_parts.proofs.rows.mark.Tie as tie
+use Rattle.search_vectors.proofs.rows.mark.Statement.{statement}
+use Rattle.search_vectors.proofs.rows.mark.Tie as tie
 
 abbrev Inv-loop : tie.InvT-loop
 Inv-loop rows₀ from to row j₀ rows j = Unit {0}

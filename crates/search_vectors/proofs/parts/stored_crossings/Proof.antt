@@ -2,8 +2,8 @@
 use Prim.Native.Nat.{_-_}
 use native.Mathlib.Omega.{arith}
 use borrow.Author.Needs.{needs}
-use Rattle.search_parts.proofs.parts.stored_crossings.Statement.{statement}
-use Rattle.search_parts.proofs.parts.stored_crossings.Tie as tie
+use Rattle.search_vectors.proofs.parts.stored_crossings.Statement.{statement}
+use Rattle.search_vectors.proofs.parts.stored_crossings.Tie as tie
 
 abbrev Inv-loop : tie.InvT-loop
 Inv-loop book m i count₀ j₀ count j = Unit {0}

@@ -1,12 +1,12 @@
 // What added each pair. The search's parts are run apart on the grid's samples: each row of samples must
 // add just the pairs that are stored as its own, each place in a row the pair that is stored as its own,
 // and each component must have as many crossings as its stored pairs say.
+use crate::place;
+use crate::record;
 use crate::rows;
 use float::is_finite;
 use search::Found;
 use search_error::Given;
-use search_places::place;
-use search_places::record;
 ghost use Prim.Native.Nat.{_<_, _≤_};
 
 fn check_rows(
@@ -179,7 +179,13 @@ fn given(head: &[u8; 432]) -> Given {
     )
 }
 
-pub fn check(head: &[u8; 432], book: &[u8; 1830400], n: usize, m: usize, tally: &mut [u64; 64])
+pub(crate) fn check(
+    head: &[u8; 432],
+    book: &[u8; 1830400],
+    n: usize,
+    m: usize,
+    tally: &mut [u64; 64],
+)
     requires { ⌜ (n ≤ 400) × (m ≤ 17600) ⌝ }
 {
     let from = given(head);

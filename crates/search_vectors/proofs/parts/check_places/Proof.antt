@@ -2,8 +2,8 @@
 use Prim.Native.Nat.{_-_}
 use native.Mathlib.Omega.{arith}
 use borrow.Author.Needs.{needs}
-use Rattle.search_parts.proofs.parts.check_places.Statement.{statement}
-use Rattle.search_parts.proofs.parts.check_places.Tie as tie
+use Rattle.search_vectors.proofs.parts.check_places.Statement.{statement}
+use Rattle.search_vectors.proofs.parts.check_places.Tie as tie
 
 abbrev Inv-loop : tie.InvT-loop
 Inv-loop given i n xs ys book m tally₀ ok j₀ tally j = Unit {0}
