@@ -1,10 +1,9 @@
-// The functions of polynomial, quartic, qr and ellipse by number, over plain numbers: what their test
-// program and the benchmark call. Numbers, arguments and results are those of the oracle's test
-// records (`oracle layout`): a vector stands by its parts, a matrix by rows, a complex number as re
-// and im, a set or a list of roots as its count and all its slots. The results go to the first words
-// of `out`. A number that no function has writes nothing.
-pub mod shapes;
-
+// The functions of polynomial, quartic, qr and ellipse.
+use crate::shapes::put;
+use crate::shapes::put_pairs;
+use crate::shapes::put_two;
+use crate::shapes::put_vector;
+use crate::shapes::vector;
 use complex::Complex;
 use polynomial::Cubic;
 use polynomial::Matrix2;
@@ -14,11 +13,6 @@ use polynomial::Roots;
 use polynomial::Vector2;
 use polynomial::Vector4;
 use polynomial::Vector5;
-use shapes::put;
-use shapes::put_pairs;
-use shapes::put_two;
-use shapes::put_vector;
-use shapes::vector;
 ghost use Prim.Native.Nat.{_+_, _≤_};
 
 fn vector2(args: &[f64; 40], i: usize) -> Vector2
@@ -165,7 +159,7 @@ fn solve_two_ellipse_numeric(args: &[f64; 40], out: &mut [u64; 23]) {
     put_pairs(out, set);
 }
 
-pub fn polynomial(id: u64, args: &[f64; 40], out: &mut [u64; 23]) {
+pub(crate) fn polynomial(id: u64, args: &[f64; 40], out: &mut [u64; 23]) {
     match id {
         0 => cone_polynomials(args, out),
         1 => put_vector(out, 0, polynomial::vec_self_convolve_2(vector2(args, 0))),

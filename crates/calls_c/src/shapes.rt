@@ -4,7 +4,7 @@ use solutionset::Pair;
 use solutionset::PairSet4;
 ghost use Prim.Native.Nat.{_+_, _≤_};
 
-pub fn vector(args: &[f64; 40], i: usize) -> Vector3
+pub(crate) fn vector(args: &[f64; 40], i: usize) -> Vector3
     requires { ⌜ i + 3 ≤ 40 ⌝ }
 {
     Vector3 {
@@ -14,20 +14,20 @@ pub fn vector(args: &[f64; 40], i: usize) -> Vector3
     }
 }
 
-pub fn put(out: &mut [u64; 23], i: usize, x: f64)
+pub(crate) fn put(out: &mut [u64; 23], i: usize, x: f64)
     requires { ⌜ i + 1 ≤ 23 ⌝ }
 {
     out[i] = cases::pattern(x);
 }
 
-pub fn put_two(out: &mut [u64; 23], i: usize, x: f64, y: f64)
+pub(crate) fn put_two(out: &mut [u64; 23], i: usize, x: f64, y: f64)
     requires { ⌜ i + 2 ≤ 23 ⌝ }
 {
     put(out, i, x);
     put(out, i + 1, y);
 }
 
-pub fn put_vector(out: &mut [u64; 23], i: usize, v: Vector3)
+pub(crate) fn put_vector(out: &mut [u64; 23], i: usize, v: Vector3)
     requires { ⌜ i + 3 ≤ 23 ⌝ }
 {
     put(out, i, v.x);
@@ -35,13 +35,13 @@ pub fn put_vector(out: &mut [u64; 23], i: usize, v: Vector3)
     put(out, i + 2, v.z);
 }
 
-pub fn put_pair(out: &mut [u64; 23], i: usize, p: Pair)
+pub(crate) fn put_pair(out: &mut [u64; 23], i: usize, p: Pair)
     requires { ⌜ i + 2 ≤ 23 ⌝ }
 {
     put_two(out, i, p.first, p.second);
 }
 
-pub fn put_pairs(out: &mut [u64; 23], set: PairSet4) {
+pub(crate) fn put_pairs(out: &mut [u64; 23], set: PairSet4) {
     let all = set.get_all();
     let slots = all.slots;
     out[0] = all.count as u64;

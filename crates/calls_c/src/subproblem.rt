@@ -1,12 +1,11 @@
-// The subproblems, and the choice among subproblem 5's candidates, by number, as polynomial_calls has
-// the functions beneath them.
+// The subproblems, and the choice among subproblem 5's candidates.
+use crate::shapes::put;
+use crate::shapes::put_pair;
+use crate::shapes::put_pairs;
+use crate::shapes::put_two;
+use crate::shapes::vector;
 use float::SinCos;
 use linear::Vector3;
-use polynomial_calls::shapes::put;
-use polynomial_calls::shapes::put_pair;
-use polynomial_calls::shapes::put_pairs;
-use polynomial_calls::shapes::put_two;
-use polynomial_calls::shapes::vector;
 use solutionset::SinCosSet2;
 use subproblems::Solved2;
 use subproblems_sc::SolvedSinCos2;
@@ -165,7 +164,7 @@ fn subproblem4_sc(args: &[f64; 40], out: &mut [u64; 23]) {
     put_solved_sin_cos(out, s);
 }
 
-pub fn subproblem(id: u64, args: &[f64; 40], out: &mut [u64; 23]) {
+pub(crate) fn subproblem(id: u64, args: &[f64; 40], out: &mut [u64; 23]) {
     match id {
         1 => subproblem1(args, out),
         2 => subproblem2(args, out),
@@ -221,7 +220,7 @@ fn triples(args: &[f64; 40]) -> [Triple; 16] {
 
 // Number 10, whose first argument is a whole number: that of the triples. More than its records have
 // room for are no count of a result.
-pub fn reduced_solutionset(count: u64, args: &[f64; 40], out: &mut [u64; 23]) {
+pub(crate) fn reduced_solutionset(count: u64, args: &[f64; 40], out: &mut [u64; 23]) {
     if count > 12 {
         out[0] = u64::MAX;
         return;
