@@ -3,34 +3,73 @@
  *
  * Link it:  tools/example_c.sh builds target/staticlib/libsaihkeb.a and links an example with it:
  *               cc -I include solve.c target/staticlib/libsaihkeb.a -lm
+ * The library is code for x86-64 (System V calling convention). C99 or later, or C++11 or later.
  *
  * UNITS
  *   Angles are radians. Lengths (the offsets of the arm, the place of the pose) may have any unit,
- *   the same for both. Axes are directions; they need not have length 1.
+ *   the same for both; the tolerances of 1e-6 in the solver are in that unit.
  *
  * ARM, POSE AND ANSWER
  *   arm     39 numbers: six axes h1 to h6, then seven offsets p0 to p6, three numbers (x, y, z) each.
  *           p0 leads from the base to joint 1, p1 from joint 1 to joint 2, p6 from joint 6 to the tool.
- *   pose    12 numbers: the rotation by rows (nine), then the place (three).
- *   answer  six angles, joint 1 first, in the angle list, and one byte in the flag list:
- *           1 if the answer is only nearest in the sense of least squares, so that the tool does not
- *           reach the pose, and 0 otherwise. Test it before you move. An unflagged answer may still
- *           hold NaN for some arms (docs/DIFFERENCES.md): test that too.
+ *           EACH AXIS HAS LENGTH 1. That is not tested: a rotation is taken about the axis at length 1,
+ *           but the equations for the angles take the axis as it is. With an axis of another length
+ *           the refusal is 0 and no answer without a flag makes the pose, and each family has axes where
+ *           such answers come (h2 = (0, 2, 0) in examples/c: 8 answers, flag 0, 0.23 to 0.33 m off).
+ *           Only h1 in family 6, and an axis that is not read (below), may have any length.
+ *   pose    12 numbers: the rotation by rows (nine), then the place (three). The rows have length 1,
+ *           are at right angles and right-handed. That is not tested: where it is off by more than
+ *           1e-6 nearly every answer has flag 1, but a mirror image gives answers without a flag that
+ *           miss the pose. Give the entries with seven decimals or more.
+ *   answer  six angles, joint 1 first, in the angle list, and one byte in the flag list.
+ *           Flag 1: some step had no exact solution, and its nearest one was taken (least squares).
+ *             As a rule the tool misses the pose. But where an elbow is exactly straight, rounding
+ *             decides, and a flagged answer may be exact.
+ *           Flag 0: each step had its solution, as far as lengths tell, within 1e-6. THAT DOES NOT MEAN
+ *             THAT THE POSE IS REACHED: where axes 4 and 6 are parallel (q5 = 0 on many arms), q4 and
+ *             q6 come from rounding errors, and an answer may make the place and be turned by any
+ *             angle; in families 1 to 3 a quarter to a third of the poses exactly there have such
+ *             answers.
+ *           An angle may be NaN, in an answer with flag 0 too: in families 2, 4 and 5 where an elbow is
+ *             exactly straight or folded, and in family 5 for the arms named below.
+ *           So before you move: no angle is NaN, and saihkeb_forward_kinematics at the angles gives the
+ *           pose that was asked for, within the tolerance of your machine.
+ *   A list, empty or not, may lack answers that the arm has, with refusal 0.
+ *   README.md, "What to know before you rely on a list", and docs/DIFFERENCES.md have the figures.
  *
- * FAMILIES
- *   1  three last axes meet, axes 2 and 3 parallel        at most 8 answers
- *   2  three last axes meet, axes 1 and 2 meet            at most 8
- *   3  three last axes meet                               at most 8
- *   4  axes 2, 3, 4 parallel, axes 5 and 6 meet           at most 8
- *   5  axes 2, 3, 4 parallel                              at most 8
- *   6  axes 2 and 3 parallel: a search with n samples     at most 44 * n
- *   The arm is not tested for its family: an arm of another shape gives answers that do not fit it.
+ * FAMILIES, and what an arm of each has
+ *   1  h3 = h2 or h3 = -h2; p4 = p5 = 0                                  at most 8 answers
+ *   2  p1 = p4 = p5 = 0                                                  at most 8
+ *   3  p4 = p5 = 0; axes 1 and 2 do not meet, nor axes 2 and 3           at most 8
+ *   4  h2 = h3 = h4; p5 = 0                                              at most 8
+ *   5  h2 = h3 = h4; h2, h5, h6 not in one plane if axes 5 and 6 meet    at most 8
+ *   6  h2 = h3; h2, h4, h5 not in one plane if axes 4 and 5 meet;        at most 44 * n
+ *      a search with n samples
+ *   Not parallel are, in families 1 to 4, axes 1 and 2, 4 and 5, 5 and 6, in family 3 also 2 and 3; in
+ *   family 5 axes 1 and 2, 4 and 5; in family 6 axes 3 and 4.
+ *   None of it is tested. Where it fails the refusal is 0 as well, and (tools/claims.py shows each):
+ *   - Families 1 to 3 never read p4 and p5, and family 2 never reads p1: they solve the arm that has
+ *     zero there, and each answer without a flag misses the place by the length of what was left out.
+ *   - Families 4 and 5 never read h3 and h4, and family 6 never reads h3: they take h2. Where h3 = -h2,
+ *     every answer without a flag misses, by up to several lengths of a link and 180 degrees. Write
+ *     such an arm with h3 = h2, and turn the sign of q3.
+ *   - Family 1 with h3 not parallel to h2, and family 4 with p5 not zero: every answer has flag 1.
+ *   - Axes parallel that must not be: the angles that made a pose are never in its list, which often is
+ *     empty; family 2 with axes 1 and 2 parallel gives answers without a flag that miss the place.
+ *   - Family 3 with axes 1 and 2, or 2 and 3, that meet: a fifth to a half of the poses lack answers.
+ *   - Family 5 where axes 5 and 6 meet and h2, h5, h6 lie in one plane: every answer is NaN, or the list
+ *     is empty. Family 6 where axes 4 and 5 meet and h2, h4, h5 lie in one plane: the list is empty
+ *     for every pose. Where h6 (h5) is turned out of that plane by just 90 degrees, some poses lack
+ *     answers, and in family 6 all do if axes 5 and 6 meet as well. The same arm, written with the
+ *     zero of joint 5 (family 6: joint 4) moved, is solved: README.md, "What to know before you rely
+ *     on a list", says how.
  *
  * LISTS
  *   A list is a pointer and the number of its elements (not bytes). It may have any length, and
- *   each call judges the lengths; but a pointer must not be null, also where the length is 0, must
- *   be aligned for its type, and must lead to that many elements. What a call writes to must not
- *   overlap anything else that the same call is lent. Every number may have any bits.
+ *   each call judges the lengths. A null pointer is an empty list, whatever its length says. Else the
+ *   pointer must be aligned for its type and lead to that many elements. What a call writes to must
+ *   not overlap anything else that the same call is lent. counts is never null. Every number may have
+ *   any bits.
  *
  * REFUSALS, the first that applies
  *    0  none
@@ -46,14 +85,17 @@
  *   18  the angles are not 6 numbers                                               forward kinematics
  *
  * MEMORY AND TIME
- *   No heap, no file, no global data: a call uses its arguments and the stack alone (the most for
- *   each family is in docs/EVIDENCE.md, "Memory"), so calls in several threads do not meet, each
- *   with lists of its own. Every call ends, on every input: family 6 evaluates its error at most
- *   n + 1 + 3128 * n times. The floating-point unit has to round to nearest and to keep subnormals,
- *   as it does where nobody changed it.
+ *   A solve takes up to 190 KB of stack, in every family: give the thread at least 256 KB (many
+ *   systems give a thread 128 KB or less, and an overflow is not caught here). Measured, not proved:
+ *   tools/memory.sh. No heap, no file, no global data: a call uses its arguments and the stack alone,
+ *   so calls in several threads do not meet, each with lists of its own. Every call ends, on every
+ *   input: family 6 evaluates its error at most n + 1 + 3128 * n times. The floating-point unit has to
+ *   round to nearest and to keep subnormals, as it does where nobody changed it.
  *
- * The results are bit for bit those of the definitions in crates/ (specs/), for any input. That is
- * proved; the contracts of these functions are in crates/saihkeb/src/lib.rt.
+ * The results are bit for bit those of the definitions in crates/ (specs/), for any input, but for the
+ * bits of a NaN: a number is NaN where the definition's is, and which of the NaNs is open. That is
+ * proved; the contracts are in crates/saihkeb/src/lib.rt. It says that the answers are those of the
+ * published method, not that the method finds all or reaches the pose.
  */
 #ifndef SAIHKEB_H
 #define SAIHKEB_H
@@ -71,6 +113,24 @@ extern "C" {
 #define SAIHKEB_BLOCK 512
 
 /*
+ * What the library exports. These ask that no pointer is null, also where the length is 0; from C
+ * call the functions below, which take NULL.
+ */
+uint64_t saihkeb_solve_lent(uint64_t family, uint64_t n,
+                            const double *arm, size_t arm_len,
+                            const double *pose, size_t pose_len,
+                            double *angles, size_t angles_len,
+                            uint8_t *flags, size_t flags_len,
+                            uint64_t counts[2]);
+uint64_t saihkeb_solve_block_lent(const uint8_t *block, size_t block_len,
+                                  double *angles, size_t angles_len,
+                                  uint8_t *flags, size_t flags_len,
+                                  uint64_t counts[2]);
+uint64_t saihkeb_forward_kinematics_lent(const double *arm, size_t arm_len,
+                                         const double *angles, size_t angles_len,
+                                         double *pose, size_t pose_len);
+
+/*
  * Solves a pose. Gives the refusal.
  *
  * counts[0] becomes the number of answers in the full list, counts[1] the number of evaluations of
@@ -80,15 +140,24 @@ extern "C" {
  * Refusal 0: the answers stand in the lists, answer i from angles[6 * i] on and in flags[i].
  * Refusal 9: counts[0] is the full number all the same, and the first answers that fit both lists
  * are written. So a call with room for fewer answers gives the first ones, and the number to make
- * room for.
+ * room for; with NULL, 0 for both lists it gives the number alone.
  * Elements past the last answer written keep their values, always.
  */
-uint64_t saihkeb_solve(uint64_t family, uint64_t n,
-                       const double *arm, size_t arm_len,
-                       const double *pose, size_t pose_len,
-                       double *angles, size_t angles_len,
-                       uint8_t *flags, size_t flags_len,
-                       uint64_t counts[2]);
+static inline uint64_t saihkeb_solve(uint64_t family, uint64_t n,
+                                     const double *arm, size_t arm_len,
+                                     const double *pose, size_t pose_len,
+                                     double *angles, size_t angles_len,
+                                     uint8_t *flags, size_t flags_len,
+                                     uint64_t counts[2])
+{
+    double no_arm = 0, no_pose = 0, no_angle = 0;
+    uint8_t no_flag = 0;
+    return saihkeb_solve_lent(family, n,
+                              arm ? arm : &no_arm, arm ? arm_len : 0,
+                              pose ? pose : &no_pose, pose ? pose_len : 0,
+                              angles ? angles : &no_angle, angles ? angles_len : 0,
+                              flags ? flags : &no_flag, flags ? flags_len : 0, counts);
+}
 
 /*
  * The same for a block of 512 bytes: 64 little-endian 64-bit words. Word 0 has the family in byte
@@ -96,19 +165,32 @@ uint64_t saihkeb_solve(uint64_t family, uint64_t n,
  * is reserved and zero. Bytes past the 512th are not read. Refusals 1 to 3 come first and are as 4
  * to 8: both counts 0, and nothing written to the lists.
  */
-uint64_t saihkeb_solve_block(const uint8_t *block, size_t block_len,
-                             double *angles, size_t angles_len,
-                             uint8_t *flags, size_t flags_len,
-                             uint64_t counts[2]);
+static inline uint64_t saihkeb_solve_block(const uint8_t *block, size_t block_len,
+                                           double *angles, size_t angles_len,
+                                           uint8_t *flags, size_t flags_len,
+                                           uint64_t counts[2])
+{
+    double no_angle = 0;
+    uint8_t no_block = 0, no_flag = 0;
+    return saihkeb_solve_block_lent(block ? block : &no_block, block ? block_len : 0,
+                                    angles ? angles : &no_angle, angles ? angles_len : 0,
+                                    flags ? flags : &no_flag, flags ? flags_len : 0, counts);
+}
 
 /*
  * The pose that an arm has at six angles. Gives 0 and writes the 12 numbers of the pose; or 5, 6 or
  * 18, in this order, where a list has not 39, 12 or 6 elements, and writes nothing. The numbers
- * themselves are never refused.
+ * themselves are never refused. Axes may have any length but 0 here: they are taken at length 1.
  */
-uint64_t saihkeb_forward_kinematics(const double *arm, size_t arm_len,
-                                    const double *angles, size_t angles_len,
-                                    double *pose, size_t pose_len);
+static inline uint64_t saihkeb_forward_kinematics(const double *arm, size_t arm_len,
+                                                  const double *angles, size_t angles_len,
+                                                  double *pose, size_t pose_len)
+{
+    double no_arm = 0, no_angle = 0, no_pose = 0;
+    return saihkeb_forward_kinematics_lent(arm ? arm : &no_arm, arm ? arm_len : 0,
+                                           angles ? angles : &no_angle, angles ? angles_len : 0,
+                                           pose ? pose : &no_pose, pose ? pose_len : 0);
+}
 
 #ifdef __cplusplus
 }

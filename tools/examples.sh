@@ -1,7 +1,8 @@
 #!/usr/bin/env bash
 # Builds the C and the Rust example and the program, and holds the examples' angles to the
 # program's: the degrees that they print for their own pose, and every line of COUNT poses for each
-# family and of blocks that are refused. Needs rt, cargo, a C compiler and python3.
+# family and of blocks that are refused. Then tools/test_header.sh. Needs rt, cargo, a C and a C++
+# compiler and python3.
 #   tools/examples.sh [COUNT]
 set -euo pipefail
 cd "$(dirname "$0")/.."
@@ -41,3 +42,4 @@ tools/program.sh ik <"$log/blocks" >"$log/lines"
 target/examples/solve_c lines <"$log/blocks" | cmp - "$log/lines"
 target/examples/solve_rust lines <"$log/blocks" | cmp - "$log/lines"
 echo "lines: $(grep -c ^block "$log/lines") blocks, $(grep -vc ^block "$log/lines") answers, C and Rust as the program"
+tools/test_header.sh

@@ -32,6 +32,12 @@ the solver gets the nearest f64 of what is written. Lengths have any one unit.
                      or
     from angles A1 .. A6   in degrees: the pose that these joint angles give the arm. A help for a
                        first try; computed here, not by the proved program
+
+An answer is held against its pose here, and marked: 'MISSES the pose' where its own place is off by more
+than a millionth of the arm's size (the sum of the offsets' lengths) or its rotation by more than 0.0001
+degrees, with the solver's flag ('least squares') or without one ('no flag'); 'NO ANSWER' where an angle is
+not a number. Notes on an arm that is not of its family, or that the family solves badly, go to standard
+error.
 """
 
 import argparse
@@ -54,17 +60,21 @@ FAMILIES = {
 AXES = [f"h{i}" for i in range(1, 7)]
 OFFSETS = [f"p{i}" for i in range(7)]
 
-# What each family's solver takes for granted of an arm, and does not look at.
+# What each family's solver takes for granted of an arm, and does not look at. In family 1 h3 = -h2 does
+# as well.
 EQUAL_AXES = {1: ["h2", "h3"], 4: ["h2", "h3", "h4"], 5: ["h2", "h3", "h4"], 6: ["h2", "h3"]}
 ZERO_OFFSETS = {1: ["p4", "p5"], 2: ["p1", "p4", "p5"], 3: ["p4", "p5"], 4: ["p5"]}
+# The first of two neighbouring axes that must not be parallel.
+NOT_PARALLEL = {1: [1, 4, 5], 2: [1, 4, 5], 3: [1, 2, 4, 5], 4: [1, 4, 5], 5: [1, 4], 6: [3]}
+# The first of two neighbouring axes that must not meet: family 3 loses answers there.
+MUST_NOT_MEET = {3: [1, 2]}
+# The joint whose axis must not meet the next one where its zero puts the two in line with axis 2.
+HINGE = {5: 5, 6: 4}
 
-# Neighbouring axes that must not meet: the solver loses answers there (docs/DIFFERENCES.md). In families
-# 5 and 6 that is so where they meet at a right angle.
-MUST_NOT_MEET = {3: [1, 2], 5: [5], 6: [4]}
-SQUARELY = (5, 6)
-
-# The families whose list may be empty for a pose within reach.
-MAY_MISS = (3, 5, 6)
+# An answer misses its pose where its place is off by more than this part of the arm's size (the sum of
+# the offsets' lengths), or its rotation by more than so many degrees.
+PLACE_OFF = 1e-6
+TURN_OFF = 1e-4
 
 REFUSALS = {
     1: "the last block of the input is shorter than 512 bytes",
@@ -78,7 +88,7 @@ REFUSALS = {
     9: "there are more answers than the program has space for",
 }
 NUMBER = re.compile(r"[+-]?([0-9]+\.?[0-9]*|\.[0-9]+)([eE][+-]?[0-9]+)?")
-FLAGGED = "nearest only (least squares)"
+FLAGGED = "least squares"
 
 
 class SheetError(Exception):
@@ -298,30 +308,65 @@ def arm_notes(sheet):
     for name in AXES:
         length = math.hypot(*sheet.arm[name])
         if abs(length - 1) > 1e-9:
-            yield f"{name} has length {length:.6g}, not 1"
+            yield f"{name} has length {length:.6g}, not 1: answers miss the pose, with no flag or with one"
     equal = EQUAL_AXES.get(sheet.family, [])
-    if any(sheet.arm[name] != sheet.arm[equal[0]] for name in equal):
-        yield f"family {sheet.family} is for arms with {' = '.join(equal)}"
+    first = sheet.arm[equal[0]] if equal else None
+    allowed = [first, [-x for x in first]] if sheet.family == 1 else [first]
+    if any(sheet.arm[name] not in allowed for name in equal):
+        read = "is" if sheet.family == 6 else "are"
+        unread = f"; {' and '.join(equal[1:])} {read} not read" if sheet.family != 1 else ""
+        yield f"family {sheet.family} is for arms with {' = '.join(equal)}{unread}"
     for name in ZERO_OFFSETS.get(sheet.family, []):
         if any(sheet.arm[name]):
-            yield f"family {sheet.family} is for arms with {name} = 0 0 0"
+            unread = f"; {name} is not read" if sheet.family != 4 else ""
+            yield f"family {sheet.family} is for arms with {name} = 0 0 0{unread}"
+
+
+def dot(u, v):
+    return sum(x * y for x, y in zip(u, v))
+
+
+def cross(u, v):
+    return [u[1] * v[2] - u[2] * v[1], u[2] * v[0] - u[0] * v[2], u[0] * v[1] - u[1] * v[0]]
+
+
+def parallel(arm, i):
+    """Whether axes i and i + 1 are parallel."""
+    return math.hypot(*cross(arm[f"h{i}"], arm[f"h{i + 1}"])) < 1e-9
 
 
 def meet(arm, i):
     """Whether axes i and i + 1 meet: the offset between them has no part across both."""
-    (a, b, c), (d, e, f), offset = arm[f"h{i}"], arm[f"h{i + 1}"], arm[f"p{i}"]
-    across = [b * f - c * e, c * d - a * f, a * e - b * d]
-    return abs(sum(x * y for x, y in zip(across, offset))) <= 1e-9 * math.hypot(*offset)
+    across, offset = cross(arm[f"h{i}"], arm[f"h{i + 1}"]), arm[f"p{i}"]
+    return not parallel(arm, i) and abs(dot(across, offset)) <= 1e-9 * math.hypot(*offset)
+
+
+def hinge_note(sheet, i):
+    """Families 5 and 6: subproblem 6 divides 0 by 0, or rounds it away, where axes i and i + 1 meet and
+    the zero of joint i puts axis i + 1 in one plane with axes i and 2, or square to that plane."""
+    hinge, following, second = sheet.arm[f"h{i}"], sheet.arm[f"h{i + 1}"], sheet.arm["h2"]
+    across = cross(hinge, following)
+    square = abs(dot(hinge, following)) < 1e-9 and abs(dot(hinge, second)) < 1e-9
+    if abs(dot(second, across)) < 1e-9:
+        found = "every list is empty" if sheet.family == 6 else "every list is empty or NaN"
+    elif abs(dot(second, cross(hinge, across))) >= 1e-9 or square and not (sheet.family == 6 and meet(sheet.arm, 5)):
+        return
+    else:
+        found = "answers are missing"
+    yield (f"axes {i} and {i + 1} meet, and joint {i}'s zero is such that in family {sheet.family} {found};"
+           f" move that zero (README.md)")
 
 
 def meeting_notes(sheet):
-    for i in MUST_NOT_MEET.get(sheet.family, []):
-        first, second = sheet.arm[f"h{i}"], sheet.arm[f"h{i + 1}"]
-        slant = abs(sum(x * y for x, y in zip(first, second)))
-        if slant > 1 - 1e-9:
+    for i in NOT_PARALLEL[sheet.family]:
+        if parallel(sheet.arm, i):
             yield f"axes {i} and {i + 1} are parallel, which is not for family {sheet.family}"
-        elif meet(sheet.arm, i) and (sheet.family not in SQUARELY or slant < 1e-9):
-            yield f"axes {i} and {i + 1} meet, and family {sheet.family} loses answers there (see README.md)"
+    for i in MUST_NOT_MEET.get(sheet.family, []):
+        if meet(sheet.arm, i):
+            yield f"axes {i} and {i + 1} meet, and family {sheet.family} loses answers there (README.md)"
+    joint = HINGE.get(sheet.family)
+    if joint and meet(sheet.arm, joint):
+        yield from hinge_note(sheet, joint)
 
 
 def pose_notes(sheet, pose):
@@ -382,23 +427,39 @@ def degrees(angle):
     return "0.0000" if text == "-0.0000" else text
 
 
-def distance(sheet, pose, angles):
-    """How far the tool is from the pose at these angles: place, and degrees of turning."""
-    rotation, place = forward(sheet.arm, angles)
-    wanted = sheet.pose_numbers(pose)
+def apart(rotation, place, wanted):
+    """How far a rotation and a place are from the 12 numbers of a pose: place, and degrees of turning."""
     away = math.dist(place, wanted[9:])
     gap = math.hypot(*(rotation[i][j] - wanted[3 * i + j] for i in range(3) for j in range(3)))
     # Two rotations that are an angle t apart differ by 2 sqrt(2) sin(t / 2) in this norm.
     return away, math.degrees(2 * math.asin(min(1, gap / math.sqrt(8))))
 
 
+def distance(sheet, pose, angles):
+    """The same for the tool at these angles."""
+    return apart(*forward(sheet.arm, angles), sheet.pose_numbers(pose))
+
+
+def misses(sheet, away, turn):
+    """What to say of an answer that is off by so much, or nothing where it makes the pose."""
+    size = sum(math.hypot(*sheet.arm[name]) for name in OFFSETS)
+    said = [f"{away:.2g} away"] if not away <= PLACE_OFF * size else []
+    said += [f"turned by {turn:.3g} degrees"] if not turn <= TURN_OFF else []
+    return "MISSES the pose: " + ", ".join(said) if said else ""
+
+
 def answer_line(sheet, pose, place, angles, flag):
+    """The line of an answer, and whether it makes the pose."""
     columns = "".join(f"{degrees(angle):>11}" for angle in angles)
     if not all(math.isfinite(angle) for angle in angles):
-        return f"{place:>6}{columns}   no answer: not a number" + (f"; {FLAGGED}" if flag else "")
+        return f"{place:>6}{columns}   NO ANSWER: not a number" + (f"; {FLAGGED}" if flag else ""), False
     away, turn = distance(sheet, pose, angles)
-    remark = f"   {FLAGGED}" if flag else ""
-    return f"{place:>6}{columns}{away:>11.1e}{turn:>10.1e}{remark}"
+    missed = misses(sheet, away, turn)
+    if flag:
+        remark = f"{FLAGGED}; {missed}" if missed else f"{FLAGGED}, but it makes the pose"
+    else:
+        remark = f"{missed} (no flag)" if missed else ""
+    return f"{place:>6}{columns}{away:>11.1e}{turn:>10.1e}   {remark}".rstrip(), not missed
 
 
 def counted(count, one, many):
@@ -415,15 +476,19 @@ def table(sheet, pose, place, result):
     if sheet.family == 6:
         head += f", {counted(result.evaluations, 'evaluation', 'evaluations')} of the search error"
     yield head
-    if result.answers == 0 and sheet.family in MAY_MISS:
-        yield "  In this family that does not say that the pose is out of reach: docs/DIFFERENCES.md"
     if result.refusal == 9:
         yield f"  refused (9): {REFUSALS[9]}; the first {len(result.angles):,} are here"
     if result.angles:
         names = "".join(f"{'q' + str(i):>11}" for i in range(1, 7))
         yield f"{'':>6}{names}{'place off':>11}{'turn off':>10}"
+    made = False
     for i, (angles, flag) in enumerate(result.angles):
-        yield answer_line(sheet, pose, i + 1, angles, flag)
+        line, makes = answer_line(sheet, pose, i + 1, angles, flag)
+        made |= makes
+        yield line
+    if not made:
+        none = "None of these makes the pose, which" if result.angles else "This"
+        yield f"  {none} does not say that the pose is out of reach: README.md"
 
 
 def show(sheet, results):
@@ -436,7 +501,8 @@ def show(sheet, results):
     if any(result.angles for result in results):
         yield ""
         yield "place off, turn off: how far an answer's own pose is from the one asked for, in the"
-        yield "sheet's unit and in degrees, as computed by this script."
+        yield "sheet's unit and in degrees, as computed by this script. MISSES: the place is off by more"
+        yield f"than a millionth of the arm's size, or the rotation by more than {TURN_OFF:g} degrees."
 
 
 # The command line.

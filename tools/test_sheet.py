@@ -18,6 +18,7 @@ import unittest
 
 import blocks
 import sheet
+import trial
 
 ORACLE = blocks.ROOT / "oracle" / "target" / "release" / "oracle"
 ARM = """family 1
@@ -234,12 +235,37 @@ class Messages(unittest.TestCase):
         self.assertIn("axes 2 and 3 meet", self.meeting(3, "zysxyx", p2="0 0.02 0.56")[0])
         self.assertIn("axes 1 and 2 meet", self.meeting(3, "zysxyx", p1="0 0.1 0.2")[0])
         self.assertIn("axes 2 and 3 are parallel", self.meeting(3, "zyyxyx")[0])
+
+    def test_notes_of_a_joint_whose_zero_matters(self):
+        """Axes i and i + 1 meet: in one plane with axis 2 nothing is found, else most is."""
         self.assertEqual(self.meeting(5, "zxxxzx"), [])
-        self.assertIn("axes 5 and 6 meet", self.meeting(5, "zxxxzx", p5="0.04 0 0.03")[0])
+        self.assertIn("empty or NaN", self.meeting(5, "zxxxzx", p5="0.04 0 0.03")[0])
+        self.assertEqual(self.meeting(5, "zxxxzy", p5="0 0.04 0.03"), [])
         self.assertEqual(self.meeting(6, "zyyxyx"), [])
-        self.assertIn("axes 4 and 5 meet", self.meeting(6, "zyyxyx", p4="0.47 0.03 0")[0])
-        self.assertEqual(self.meeting(6, "zyyxsx", p4="0.47 0 0"), self.meeting(6, "zyyxyx", p4="0.47 0 0"))
-        self.assertEqual(self.meeting(6, "zyysyx", p4="0 0.1 0.2"), [])
+        self.assertIn("every list is empty", self.meeting(6, "zyyxyx", p4="0.47 0.03 0")[0])
+        self.assertEqual(self.meeting(6, "zyyxsx", p4="0.47 0 0"), [])
+        self.assertEqual(self.meeting(6, "zyyxzx", p4="0.47 0 0"), [])
+        self.assertIn("answers are missing", self.meeting(6, "zyyxzx", p4="0.47 0 0", p5="0.1 0 0.2")[0])
+
+    def test_notes_of_axes_that_meet_at_another_angle(self):
+        """A Jaco2 has 60 degrees; with the zero of joint 4 moved there is nothing to note."""
+        made = sheet.parse(ARM_6 + POSE)
+        made.arm = trial.jaco()
+        self.assertIn("every list is empty; move that zero", sheet.notes(made)[0])
+        made.arm, _ = trial.moved_zero(trial.jaco(), 4, 0.3)
+        self.assertEqual(sheet.notes(made), [])
+        slanted = self.meeting(5, "zyyyzs", p5="0 0.06 0.08")
+        self.assertIn("axes 5 and 6 meet", slanted[0])
+
+    def test_notes_of_parallel_axes(self):
+        for family, axes, i in ((1, "yyyzyz", 1), (2, "zyxzzx", 4), (4, "zyyyzz", 5), (6, "zyyyzx", 3)):
+            self.assertIn(f"axes {i} and {i + 1} are parallel", self.meeting(family, axes)[0])
+
+    def test_notes_of_axes_of_opposite_sense(self):
+        turned = ARM.replace("h3 0 1 0", "h3 0 -1 0") + POSE
+        self.assertEqual(sheet.notes(sheet.parse(turned)), [])
+        six = sheet.notes(sheet.parse(turned.replace("family 1", "family 6\nn 200")))
+        self.assertIn("h2 = h3; h3 is not read", six[0])
 
 
 def line(angles, flag):
@@ -260,12 +286,38 @@ class Tables(unittest.TestCase):
         rows = text.splitlines()[4:7]
         self.assertEqual(rows[0].split()[:7],
                          ["1", "180.0000", "-90.0000", "0.0000", "0.0000", "0.0000", "0.0000"])
-        self.assertNotIn("nearest", rows[0])
+        self.assertIn("MISSES the pose: ", rows[0])
+        self.assertTrue(rows[0].endswith("degrees (no flag)"), rows[0])
         self.assertIn("28.6479", rows[1])
-        self.assertIn("nearest only (least squares)", rows[1])
+        self.assertIn("   least squares; MISSES the pose: ", rows[1])
         self.assertIn("NaN", rows[2])
-        self.assertIn("no answer: not a number", rows[2])
+        self.assertIn("NO ANSWER: not a number", rows[2])
+        self.assertNotIn("MISSES", rows[2])
+        self.assertIn("None of these makes the pose", text)
         self.assertNotIn("evaluation", text)
+
+    def marks(self, flag, *angles):
+        """The remark on an answer to the pose at zero angles."""
+        lines = ["block 0 refusal 0 answers 1 evals 0", line([math.radians(a) for a in angles], flag)]
+        text = self.shown(ARM + "pose\nfrom angles 0 0 0 0 0 0\n", lines)
+        return text.splitlines()[4][93:].strip(), "None of these" in text
+
+    def test_marks(self):
+        self.assertEqual(self.marks(0, 0, 0, 0, 0, 0, 0), ("", False))
+        self.assertEqual(self.marks(1, 0, 0, 0, 0, 0, 0), ("least squares, but it makes the pose", False))
+        self.assertEqual(self.marks(0, 0, 0, 0, 0, 0, 90), ("MISSES the pose: turned by 90 degrees (no flag)", True))
+        self.assertEqual(self.marks(1, 0, 0, 0, 0, 0, 90), ("least squares; MISSES the pose: turned by 90 degrees", True))
+        self.assertIn(" away, turned by 90 degrees", self.marks(0, 90, 0, 0, 0, 0, 0)[0])
+
+    def test_how_far_off_is_a_miss(self):
+        self.assertEqual(self.marks(0, 0, 0, 0, 0, 0, 0.9e-4), ("", False))
+        self.assertEqual(self.marks(0, 0, 0, 0, 0, 0, 1.1e-4), ("MISSES the pose: turned by 0.00011 degrees (no flag)", True))
+        # The place alone: joints 1 and 6 turn about parallel axes here, and undo each other's turn.
+        size = sum(math.hypot(*trial.named("puma")[name]) for name in sheet.OFFSETS)
+        reach = math.hypot(0.4318 - 0.0203, 0.2435 - 0.0934)
+        for part, missed in ((0.9e-6, False), (1.1e-6, True)):
+            turn = math.degrees(part * size / reach)
+            self.assertEqual(" away" in self.marks(0, turn, 0, 0, 0, 0, -turn)[0], missed)
 
     def test_how_far_off(self):
         text = ARM + "pose\nfrom angles 0 0 0 0 0 0\n"
@@ -283,10 +335,9 @@ class Tables(unittest.TestCase):
         self.assertIn("n = 200", text)
         self.assertIn("0 answers, 1,201 evaluations of the search error", text)
 
-    def test_an_empty_list_is_no_verdict_in_some_families(self):
+    def test_an_empty_list_is_no_verdict(self):
         lines = ["block 0 refusal 0 answers 0 evals 0"]
-        self.assertIn("does not say", self.shown(ARM_6 + POSE, lines))
-        self.assertNotIn("does not say", self.shown(ARM + POSE, lines))
+        self.assertIn("This does not say that the pose is out of reach", self.shown(ARM_6 + POSE, lines))
 
     def test_every_refusal_in_words(self):
         for refusal in range(1, 9):
@@ -405,13 +456,12 @@ class WithOracle(unittest.TestCase):
             self.assertEqual(sheet.notes(made), [])
             results = sheet.read_results(blocks.run(blocks.command(program), made.to_blocks()), len(made.poses))
             for pose, result in zip(made.poses, results):
-                exact = [a for a, flag in result.angles if not flag]
+                off = [sheet.distance(made, pose, a) for a, flag in result.angles if not flag]
                 self.assertEqual(result.refusal, 0)
-                self.assertEqual(bool(exact), pose.name != "out of reach")
-                for angles in exact:
-                    away, turn = sheet.distance(made, pose, angles)
-                    self.assertLess(away, 1e-9)
-                    self.assertLess(turn, 1e-6)
+                self.assertEqual(bool(off), pose.name != "out of reach")
+                self.assertLess(max((away for away, _ in off), default=0), 1e-8)
+                turned = sum(turn > 1e-6 for _, turn in off)
+                self.assertEqual(turned, 2 if pose.name.startswith("wrist straight") else 0)
 
 
 if __name__ == "__main__":

@@ -14,6 +14,7 @@
 
 #define DEGREE (3.14159265358979323846 / 180)
 #define ROOM 1024 /* answers that there is room for */
+#define NEAR 1e-6 /* in metres, and in an entry of the rotation */
 
 /* A large arm with a spherical wrist, in metres: family 1. */
 #define FAMILY 1
@@ -42,6 +43,18 @@ static uint64_t find_pose(double pose[SAIHKEB_POSE])
     return saihkeb_forward_kinematics(arm, SAIHKEB_ARM, q, SAIHKEB_ANGLES, pose, SAIHKEB_POSE);
 }
 
+/* Whether the arm makes the pose with these angles. The flag does not say it, and a NaN fails here. */
+static int makes(const double q[SAIHKEB_ANGLES], const double pose[SAIHKEB_POSE])
+{
+    double at[SAIHKEB_POSE];
+    if (saihkeb_forward_kinematics(arm, SAIHKEB_ARM, q, SAIHKEB_ANGLES, at, SAIHKEB_POSE))
+        return 0;
+    for (int i = 0; i < SAIHKEB_POSE; i++)
+        if (!(fabs(at[i] - pose[i]) <= NEAR))
+            return 0;
+    return 1;
+}
+
 static int print_degrees(const double pose[SAIHKEB_POSE])
 {
     uint64_t counts[2];
@@ -52,7 +65,8 @@ static int print_degrees(const double pose[SAIHKEB_POSE])
     for (uint64_t i = 0; i < counts[0]; i++) {
         for (unsigned j = 0; j < 6; j++)
             printf("%10.4f", angles[6 * i + j] / DEGREE);
-        puts(flags[i] ? "  least squares" : "");
+        fputs(flags[i] ? "  least squares" : "", stdout);
+        puts(makes(angles + 6 * i, pose) ? "" : "  misses the pose");
     }
     return 0;
 }

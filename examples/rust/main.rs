@@ -24,6 +24,16 @@ const TAUGHT: [f64; 6] = [30.0, -20.0, 15.0, 40.0, -60.0, 75.0];
 
 const DEGREE: f64 = std::f64::consts::PI / 180.0;
 
+/// In metres, and in an entry of the rotation.
+const NEAR: f64 = 1e-6;
+
+/// Whether the arm makes the pose with these angles. The flag does not say it, and a NaN fails here.
+fn makes(angles: &[f64], pose: &[f64; 12]) -> bool {
+    let angles = angles.try_into().expect("six angles");
+    let at = saihkeb::forward_kinematics(&ARM, angles);
+    at.iter().zip(pose).all(|(a, b)| (a - b).abs() <= NEAR)
+}
+
 fn degrees() -> io::Result<()> {
     let pose = saihkeb::forward_kinematics(&ARM, &TAUGHT.map(|t| t * DEGREE));
     let (mut angles, mut flags) = ([0.0; 6 * ROOM], [0; ROOM]);
@@ -35,7 +45,9 @@ fn degrees() -> io::Result<()> {
         for angle in &angles[6 * i..6 * i + 6] {
             print!("{:10.4}", angle / DEGREE);
         }
-        println!("{}", if flags[i] == 1 { "  least squares" } else { "" });
+        print!("{}", if flags[i] == 1 { "  least squares" } else { "" });
+        let made = makes(&angles[6 * i..6 * i + 6], &pose);
+        println!("{}", if made { "" } else { "  misses the pose" });
     }
     Ok(())
 }

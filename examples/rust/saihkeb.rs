@@ -1,11 +1,12 @@
 //! A safe wrapper over libsaihkeb.a. The contracts ask nothing of the numbers or of the lists'
 //! lengths (every function is defined on every input), so there is nothing to test before a call:
-//! that a list is as long as its length says, and overlaps no other, is what Rust's slices are. The
-//! refusals become errors.
+//! that a list is as long as its length says, is not null and overlaps no other, is what Rust's
+//! slices are. A refusal is a number in the result, as in C; what the answers mean, and what an arm
+//! has to be, stands in include/saihkeb.h.
 
 mod library {
     extern "C" {
-        pub fn saihkeb_solve(
+        pub fn saihkeb_solve_lent(
             family: u64,
             n: u64,
             arm: *const f64,
@@ -18,7 +19,7 @@ mod library {
             flags_len: usize,
             counts: *mut [u64; 2],
         ) -> u64;
-        pub fn saihkeb_solve_block(
+        pub fn saihkeb_solve_block_lent(
             block: *const u8,
             block_len: usize,
             angles: *mut f64,
@@ -27,7 +28,7 @@ mod library {
             flags_len: usize,
             counts: *mut [u64; 2],
         ) -> u64;
-        pub fn saihkeb_forward_kinematics(
+        pub fn saihkeb_forward_kinematics_lent(
             arm: *const f64,
             arm_len: usize,
             angles: *const f64,
@@ -59,7 +60,7 @@ pub fn solve(
 ) -> Solved {
     let mut counts = [0; 2];
     let refusal = unsafe {
-        library::saihkeb_solve(
+        library::saihkeb_solve_lent(
             family,
             n,
             arm.as_ptr(),
@@ -80,7 +81,7 @@ pub fn solve(
 pub fn solve_block(block: &[u8], angles: &mut [f64], flags: &mut [u8]) -> Solved {
     let mut counts = [0; 2];
     let refusal = unsafe {
-        library::saihkeb_solve_block(
+        library::saihkeb_solve_block_lent(
             block.as_ptr(),
             block.len(),
             angles.as_mut_ptr(),
@@ -105,7 +106,7 @@ fn solved(refusal: u64, [answers, evaluations]: [u64; 2]) -> Solved {
 pub fn forward_kinematics(arm: &[f64; 39], angles: &[f64; 6]) -> [f64; 12] {
     let mut pose = [0.0; 12];
     let refusal = unsafe {
-        library::saihkeb_forward_kinematics(
+        library::saihkeb_forward_kinematics_lent(
             arm.as_ptr(),
             arm.len(),
             angles.as_ptr(),

@@ -17,6 +17,7 @@ mod inverse;
 mod inverse_kinematics;
 #[cfg(test)]
 mod known_results;
+mod lacking;
 mod linalg;
 mod missed;
 mod nalgebra;
@@ -60,6 +61,8 @@ usage: oracle COMMAND
                                          --arms adds a line for each arm, --tilt for each range
                                          of the angle between axes 2 and 5, --distance for how
                                          near the nearest answer is
+  lacking KIND FAMILY SEED COUNT [N]     how many lists lack an answer that a descent from random
+                                         angles finds (n = 200 in family 6)
   missed KIND SEED COUNT [N]             family 6: the poses that have not, each with the reason
   explain Q1 Q2 Q3 Q4 Q5 Q6              family 6: whether the angles that made a block's pose are
                                          among its answers, and if not, the reason
@@ -184,6 +187,10 @@ fn command<A: Arith>(line: &CommandLine, output: &mut impl Write) -> Result<(), 
         {
             let request = Generated::parse(kind, family, seed, count, n)?;
             told(request.write_recovered::<A>(output, line.by))
+        }
+        ["lacking", kind @ ("reachable" | "degenerate" | "round"), family, seed, count, ref n @ ..] => {
+            let request = Generated::parse(kind, family, seed, count, n)?;
+            told(request.write_lacking::<A>(output))
         }
         ["missed", kind @ ("reachable" | "degenerate" | "round"), seed, count, ref n @ ..] => {
             let request = Generated::parse(kind, "6", seed, count, n)?;
@@ -392,6 +399,17 @@ impl Generated {
             write_counts(output, name, r)?;
         }
         Ok(())
+    }
+
+    fn write_lacking<A: Arith>(&self, output: &mut impl Write) -> io::Result<()> {
+        let l = lacking::lacking::<A>(self);
+        let first = l.first.map_or("-".to_string(), |place| place.to_string());
+        writeln!(
+            output,
+            "family {} poses {} answers {} lacking {} lists-that-lack-one {} first {first} \
+             unfound-by-the-descent {}",
+            self.family, l.poses, l.answers, l.lacking, l.lists, l.unfound
+        )
     }
 
     /// A line for each missed pose with its class, then the classes' counts.

@@ -11,8 +11,8 @@ use polynomial::Quadratic;
 use polynomial::Quartic;
 use polynomial::Roots;
 use polynomial::Vector2;
-use polynomial::Vector4;
 use polynomial::Vector5;
+use qr::Vector4;
 ghost use Prim.Native.Nat.{_+_, _≤_};
 
 fn vector2(args: &[f64; 40], i: usize) -> Vector2

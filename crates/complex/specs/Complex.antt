@@ -1,7 +1,7 @@
 -- Complex numbers, as document 01 fixes num-complex's operations on them. Every operation rounds. All stay shut for callers.
 use mathlib.Core.Bool.{cond, _||_}
-use lib.Ieee.{Float, nan, binary64, neg, lt, eq, isNan, ofBits}
-use Rattle.float.specs.Num.{_⊕_, _⊖_, _⊗_, _⊘_, nought, one, two}
+use lib.Ieee.{Float, nan, neg, lt, eq, isNan}
+use Rattle.float.specs.Num.{_⊕_, _⊖_, _⊗_, _⊘_, as-f64, nought, one}
 use Rattle.float.specs.Number.{abs}
 use Rattle.float.specs.Root.{sqrt, cbrt}
 use Rattle.float.specs.Sine.{sin, cos}
@@ -58,17 +58,14 @@ absᶜ z =
     let b = abs (z .im) in
     cond (lt a b) (modulus b a) (modulus a b))
 
-abbrev three : Float
-three = ofBits binary64 0x4008_0000_0000_0000
-
 -- "Square and cube root take the root of the modulus and a half or third of the angle, atan2(im, re) divided by 2 or 3; the parts are that root times its cosine and sine."
 unfoldable pub polar : Float → Float → Complex
 polar r θ = record { re = r ⊗ cos θ; im = r ⊗ sin θ }
 
 unfoldable pub sqrtᶜ : Complex → Complex
 unfolding polar absᶜ
-sqrtᶜ z = polar (sqrt (absᶜ z)) (atan2 (z .im) (z .re) ⊘ two)
+sqrtᶜ z = polar (sqrt (absᶜ z)) (atan2 (z .im) (z .re) ⊘ as-f64 2)
 
 unfoldable pub cbrtᶜ : Complex → Complex
 unfolding polar absᶜ
-cbrtᶜ z = polar (cbrt (absᶜ z)) (atan2 (z .im) (z .re) ⊘ three)
+cbrtᶜ z = polar (cbrt (absᶜ z)) (atan2 (z .im) (z .re) ⊘ as-f64 3)

@@ -1,2 +1,1 @@
 pub mod Complex
-pub mod ComplexValues

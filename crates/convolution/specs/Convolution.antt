@@ -7,14 +7,14 @@ use Rattle.convolution.specs.declared.Vector2.{Vector2}
 use Rattle.convolution.specs.declared.Vector5.{Vector5}
 use Rattle.convolution.specs.declared.Cone.{Cone}
 
--- the convolution of a vector of two with itself
+-- "Performs convolution on a 2d vector with itself"
 unfoldable pub vec-self-convolve-2 : Vector2 → Vector3
 vec-self-convolve-2 v =
     let a = v .x in
     let b = v .y in
     record { x = a ⊗ a; y = two ⊗ a ⊗ b; z = b ⊗ b }
 
--- the convolution of a vector of three with itself
+-- "Performs convolution on a 3d vector with itself"
 unfoldable pub vec-self-convolve-3 : Vector3 → Vector5
 vec-self-convolve-3 v =
     let a = v .x in
@@ -22,7 +22,7 @@ vec-self-convolve-3 v =
     let c = v .z in
     record { a = a ⊗ a; b = two ⊗ a ⊗ b; c = two ⊗ a ⊗ c ⊕ b ⊗ b; d = two ⊗ b ⊗ c; e = c ⊗ c }
 
--- the convolution of two vectors of three
+-- "Performs convolution between two 3d vectors"
 unfoldable pub vec-convolve-3 : Vector3 → Vector3 → Vector5
 vec-convolve-3 v1 v2 =
     let a = v1 .x in

@@ -1,4 +1,5 @@
--- subproblems/auxiliary.rs: solve_two_ellipse_numeric. An ellipse is xm' xm + xi' xn' xn xi + 2 xm' xn xi = 1.
+-- solve_two_ellipse_numeric of subproblems/auxiliary.rs, by its names: "Solve for intersection of 2 ellipses defined by `xm1'*xm1 + xi'*xn1'*xn1*xi + xm1'*xn1*xi == 1`" and the same with 2,
+-- "Where `xi = [xi_1; xi_2]`". (With 2.0 in b_1 and b_2 the last product counts twice.)
 use mathlib.Core.List.{map}
 use lib.Ieee.{Float, neg}
 use Rattle.float.specs.Num.{_⊕_, _⊖_, _⊗_, _⊘_, one, two}
@@ -11,7 +12,7 @@ use Rattle.quartic.specs.Quartic.{solve-quartic-roots}
 use Rattle.convolution.specs.declared.Vector2.{Vector2}
 use Rattle.convolution.specs.declared.Vector5.{Vector5}
 use Rattle.convolution.specs.declared.Matrix2.{Matrix2}
-use Rattle.polynomial.specs.declared.Conic.{Conic}
+use Rattle.ellipse.specs.declared.Conic.{Conic}
 
 abbrev pub transpose-2 : Matrix2 → Matrix2
 transpose-2 m = record { m00 = m .m00; m01 = m .m10; m10 = m .m01; m11 = m .m11 }
@@ -31,8 +32,8 @@ abbrev pub row-apply-2 : Vector2 → Matrix2 → Vector2
 row-apply-2 v m = record { x = v .x ⊗ m .m00 ⊕ v .y ⊗ m .m10; y = v .x ⊗ m .m01 ⊕ v .y ⊗ m .m11 }
 
 -- the coefficients of an ellipse: a .. f of the first, a1, b1, c1, d1, e1, fq of the second
-unfoldable pub conic : Vector2 → Matrix2 → Conic
-conic xm xn =
+unfoldable pub coefficients : Vector2 → Matrix2 → Conic
+coefficients xm xn =
     let a-1 = product-2 (transpose-2 xn) xn in
     let b-1 = row-apply-2 (record { x = two ⊗ xm .x; y = two ⊗ xm .y }) xn in
     record {
@@ -195,7 +196,7 @@ point g h y = record { first = x-of g h y; second = y }
 
 unfoldable pub solve-two-ellipse-numeric : Vector2 → Matrix2 → Vector2 → Matrix2 → PairSet4
 solve-two-ellipse-numeric xm1 xn1 xm2 xn2 =
-    let g = conic xm1 xn1 in
-    let h = conic xm2 xn2 in
+    let g = coefficients xm1 xn1 in
+    let h = coefficients xm2 xn2 in
     let y = solve-quartic-roots (real-quartic (quartic-in-y g h)) in
     from-vec (map (point g h) (real-parts epsilon (roots y)))

@@ -1,5 +1,4 @@
 // The points where two ellipses meet.
-use polynomial::Conic;
 use polynomial::Matrix2;
 use polynomial::Vector2;
 use polynomial::Vector5;
@@ -14,11 +13,21 @@ ghost use Prim.Native.Nat.{_≤_};
 ghost use mathlib.Core.List.{map};
 ghost use lib.ListN.{take};
 ghost use Rattle.pairset.specs.PairSet4.{from-vec};
-ghost use Rattle.ellipse.specs.Ellipse.{conic, z0, z1, z2, z3, z4, quartic-in-y, x-of, point, solve-two-ellipse-numeric};
+ghost use Rattle.ellipse.specs.Ellipse.{coefficients, z0, z1, z2, z3, z4, quartic-in-y, x-of, point, solve-two-ellipse-numeric};
+
+// The coefficients of an ellipse: a x x + b x y + c y y + d x + e y + f = 0.
+pub struct Conic {
+    pub a: f64,
+    pub b: f64,
+    pub c: f64,
+    pub d: f64,
+    pub e: f64,
+    pub f: f64,
+}
 
 // The coefficients of the ellipse of xm and xn: of xn' xn, 2 xm' xn and xm' xm - 1.
-fn conic(xm: Vector2, xn: Matrix2) -> Conic
-    ensures { λ r. ⌜ r ≡ conic xm xn ⌝ }
+fn coefficients(xm: Vector2, xn: Matrix2) -> Conic
+    ensures { λ r. ⌜ r ≡ coefficients xm xn ⌝ }
 {
     let x = 2.0 * xm.x;
     let y = 2.0 * xm.y;
@@ -206,8 +215,8 @@ fn points(g: Conic, h: Conic, y: [f64; 4], count: usize) -> PairSet4
 pub fn solve_two_ellipse_numeric(xm1: Vector2, xn1: Matrix2, xm2: Vector2, xn2: Matrix2) -> PairSet4
     ensures { λ r. ⌜ r ≡ solve-two-ellipse-numeric xm1 xn1 xm2 xn2 ⌝ }
 {
-    let g = conic(xm1, xn1);
-    let h = conic(xm2, xn2);
+    let g = coefficients(xm1, xn1);
+    let h = coefficients(xm2, xn2);
     let found = solve_quartic_roots(real_quartic(quartic_in_y(g, h)));
     let reals = real_parts(EPSILON, found);
     let y = reals.slots;

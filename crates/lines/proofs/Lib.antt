@@ -1,3 +1,2 @@
 pub mod Printed
 pub mod AtStart
-pub mod Lent

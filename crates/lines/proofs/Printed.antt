@@ -1,23 +1,19 @@
 -- The lists that hold answers print as the answers' lines.
 use Prim.Native.Nat.{ℕ, zero, suc, min, _+_, _*_, _≤_, _<_, _/_}
 use mathlib.Core.Path.{_≡_, refl, sym, ap, _∙_}
-use mathlib.Core.Bool.{Bool, true, false, cond}
+use mathlib.Core.Bool.{Bool, true, false}
 use mathlib.Core.List.{List, [], _∷_, _++_, map, flatMap}
 use native.Mathlib.Numerals.{add-one}
 use native.Mathlib.Omega.{arith}
-use lib.Dec.{eqb}
 use lib.Ieee.{Float, nan}
 use lib.ListN.{length, take, drop, getD, length-take}
 use lib.Seq.{drop-drop, take-all}
 use Rattle.answers.specs.Answer.{six, flag, byte}
 use Rattle.answers.specs.Written.{room, fitting, written, flagged}
 use Rattle.answers.specs.declared.Answer.{Answer}
-use Rattle.block.specs.Block.{refusal, family, samples, arm, pose}
-use Rattle.solve.specs.Solve.{answers, solve}
-use Rattle.solve.specs.declared.Solved.{Solved}
 use Rattle.text.specs.Text.{digits, places, decimal}
 use Rattle.text.specs.Lists.{line, line-at, lines-of}
-use Rattle.lines.specs.Lines.{solve-block, block-answers, answer-line}
+use Rattle.lines.specs.Lines.{answer-line}
 use Rattle.text.proofs.Laws.{one-more}
 
 -- the six angles of answer i
@@ -65,15 +61,3 @@ printed qs a f {n} ha hf e =
     let long : length first ≡ n = rw (is, length-take 1024 qs) (omega arith) in
     let all = lines-are blank first (drop (6 * length first) a) (drop (length first) f) n (omega arith) in
     all ∙ ap (λ (l : List Answer). flatMap answer-line l) (take-all n first (omega arith) ∙ is)
-
--- the number of answers that a block reports is that of its full list
-solved-or-none : (bytes : List ℕ) (room : ℕ) (t : Bool)
-    → cond t (solve (family bytes) (samples bytes) (arm bytes) (pose bytes) room) (record { refusal = refusal bytes; answers = 0; evals = 0 }) .answers
-    ≡ length (cond t (answers (family bytes) (samples bytes) (arm bytes) (pose bytes)) [])
-unfolding solve
-solved-or-none bytes room true = refl
-solved-or-none bytes room false = refl
-
-pub counted : (bytes : List ℕ) (room : ℕ) → solve-block bytes room .answers ≡ length (block-answers bytes)
-unfolding solve-block block-answers
-counted bytes room = solved-or-none bytes room (eqb (refusal bytes) 0)

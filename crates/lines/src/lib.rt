@@ -1,6 +1,5 @@
 // The lines of a block as bytes, made from the block and its place.
-use solve::Solved;
-use solve::solve;
+use solve_block::solve_block;
 pub use text::Buffer;
 use text::head;
 use text::lines_of;
@@ -8,30 +7,8 @@ use text::shown;
 ghost use mathlib.Core.Path.{_≡_};
 ghost use Prim.Native.Nat.{_≤_};
 ghost use lib.ListN.{length};
-ghost use Rattle.answers.specs.Written.{room, written, flagged};
 ghost use Rattle.text.specs.Text.{Put};
-ghost use Rattle.lines.specs.Lines.{solve-block, block-answers, lines};
-
-// Judges a block and solves it: refusals 1 to 3, or what the solve call gives.
-pub fn solve_block(bytes: &[u8], angles: &mut [f64], flags: &mut [u8]) -> Solved
-    ensures result { λ r. ⌜ r ≡ solve-block (now (bytes .entry)) (room (now (angles .entry)) (now (flags .entry))) ⌝ }
-    ensures angles { λ _. ⌜ now (angles .exit) ≡ written (block-answers (now (bytes .entry))) (now (angles .entry)) (now (flags .entry)) ⌝ }
-    ensures flags { λ _. ⌜ now (flags .exit) ≡ flagged (block-answers (now (bytes .entry))) (now (angles .entry)) (now (flags .entry)) ⌝ }
-{
-    let refused = block::refusal(bytes);
-    if refused != 0 {
-        return Solved {
-            refusal: refused,
-            answers: 0,
-            evals: 0,
-        };
-    }
-    let family = block::family(bytes);
-    let n = block::samples(bytes);
-    let arm = block::arm(bytes);
-    let pose = block::pose(bytes);
-    solve(family, n, &arm, &pose, angles, flags)
-}
+ghost use Rattle.lines.specs.Lines.{lines};
 
 // Writes the lines of a block to the start of the buffer, and gives their length. The two lists are
 // lent for the answers: what they held before plays no part.

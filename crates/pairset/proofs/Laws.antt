@@ -1,4 +1,4 @@
--- Laws on slots, over any type of answer and any set of them.
+-- Laws on slots, over any type of solution and any set of them.
 use Prim.Native.Nat.{ℕ, zero, suc, _-_, _<_}
 use mathlib.Core.Path.{_≡_, refl, sym, ap, _∙_}
 use mathlib.Core.List.{List, [], _∷_}
@@ -13,7 +13,7 @@ module _ {A : Type 0} where
   getD-any d d′ (a ∷ l) zero h = refl
   getD-any d d′ (a ∷ l) (suc i) h = getD-any d d′ l i (omega arith)
 
-  -- a slot that holds an answer
+  -- a slot that holds a solution
   pub at-slot : (n : ℕ) (d d′ : A) (l : List A) {p : List A} (i : ℕ) → p ≡ padded n d l → i < length l → getD p i d′ ≡ getD l i d
   at-slot n d d′ l i e h = rw e (List·getD-append l (replicate (n - length l) d) d′ i h ∙ getD-any d′ d l i h)
 

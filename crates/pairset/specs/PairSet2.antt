@@ -1,4 +1,4 @@
--- solutionset.rs, SolutionSet2 of pairs of angles: the answers of subproblem2.
+-- solutionset.rs, SolutionSet2 of pairs of angles: the solutions of subproblem2.
 use Prim.Native.Nat.{ℕ, _≤_}
 use mathlib.Core.List.{List, [], _∷_}
 use native.Mathlib.Omega.{arith}
@@ -27,7 +27,7 @@ few (Two s1 s2) = omega arith
 abbrev pub none : Pair
 none = record { first = nought; second = nought }
 
--- the answer with the number i, of those that there are
+-- the solution with the number i, of those that there are
 abbrev pub at : PairSet2 → ℕ → Pair
 at s i = getD (get-all s) i none
 

@@ -1,4 +1,4 @@
--- solutionset.rs, SolutionSet4 of pairs of angles: the answers of subproblem6 and of solve_two_ellipse_numeric.
+-- solutionset.rs, SolutionSet4 of pairs of angles: the solutions of subproblem6 and of solve_two_ellipse_numeric.
 use Prim.Native.Nat.{ℕ, _≤_}
 use mathlib.Core.List.{List, [], _∷_}
 use native.Mathlib.Omega.{arith}
@@ -31,7 +31,7 @@ few (Four s1 s2 s3 s4) = omega arith
 abbrev pub none : Pair
 none = record { first = nought; second = nought }
 
--- the answer with the number i, of those that there are
+-- the solution with the number i, of those that there are
 abbrev pub at : PairSet4 → ℕ → Pair
 at s i = getD (get-all s) i none
 

@@ -10,7 +10,7 @@ pub struct Pair {
     pub second: f64,
 }
 
-// The answers of a set in slots, and their number. A slot past the last answer holds 0.0.
+// The solutions of a set in slots, and their number. A slot past the last solution holds 0.0.
 pub struct PairSlots2 {
     pub slots: [Pair; 2],
     pub count: usize,
@@ -36,7 +36,7 @@ pub enum PairSet4 {
 }
 
 impl PairSet2 {
-    // The answers, in slots with their number.
+    // The solutions, in slots with their number.
     pub fn get_all(self) -> PairSlots2
         ensures { λ r. ⌜ r ≡ PairSet2s.slots (PairSet2s.get-all self) ⌝ }
     {
@@ -60,7 +60,7 @@ impl PairSet2 {
         }
     }
 
-    // The answer with the number i.
+    // The solution with the number i.
     pub fn at(self, i: usize) -> Pair
         requires { ⌜ i < PairSet2s.size self ⌝ }
         ensures { λ r. ⌜ r ≡ PairSet2s.at self i ⌝ }
@@ -82,7 +82,7 @@ impl PairSet2 {
 }
 
 impl PairSet4 {
-    // The answers, in slots with their number.
+    // The solutions, in slots with their number.
     pub fn get_all(self) -> PairSlots4
         ensures { λ r. ⌜ r ≡ PairSet4s.slots (PairSet4s.get-all self) ⌝ }
     {
@@ -114,7 +114,7 @@ impl PairSet4 {
         }
     }
 
-    // The answer with the number i.
+    // The solution with the number i.
     pub fn at(self, i: usize) -> Pair
         requires { ⌜ i < PairSet4s.size self ⌝ }
         ensures { λ r. ⌜ r ≡ PairSet4s.at self i ⌝ }

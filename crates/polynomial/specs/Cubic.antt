@@ -1,40 +1,40 @@
--- subproblems/auxiliary.rs: solve_cubic_roots, a line of the Rust to a definition, by its name there. The degree falls where |a| < 1e-12.
+-- solve_cubic_roots of subproblems/auxiliary.rs: "Solves the roots of a cubic equation using the cubic formula", https://en.wikipedia.org/wiki/Cubic_equation#General_cubic_formula.
+-- A let of the Rust is a let here, by its name. Document 01: "Roots fall to the lower degree exactly if |a| < 1e-12."
 use mathlib.Core.Bool.{cond}
 use mathlib.Core.List.{[], _∷_}
 use lib.Ieee.{lt, neg}
-use Rattle.float.specs.Num.{one, two}
+use Rattle.float.specs.Num.{as-f64, one, two}
 use Rattle.complex.specs.Complex.{_+ᶜ_, _-ᶜ_, _*ᶜ_, _/ᶜ_, overᶜ, real-overᶜ, absᶜ, sqrtᶜ, cbrtᶜ}
 use Rattle.complex.specs.declared.Complex.{Complex}
-use Rattle.polynomial.specs.Const.{three, four, nine, twenty-seven, epsilon}
+use Rattle.polynomial.specs.Const.{epsilon}
 use Rattle.polynomial.specs.Roots.{_·ᶜ_, from-real, in-slots}
 use Rattle.polynomial.specs.Quadratic.{solve-quadratic-roots}
 use Rattle.polynomial.specs.declared.Cubic.{Cubic}
 use Rattle.polynomial.specs.declared.Roots.{Roots}
 
 unfoldable pub z : Complex
-z = overᶜ (from-real (neg one) +ᶜ sqrtᶜ (from-real (neg three))) two
+z = overᶜ (from-real (neg one) +ᶜ sqrtᶜ (from-real (neg (as-f64 3)))) two
 
-unfoldable pub p1 : Complex → Complex → Complex → Complex
-p1 a b c = b *ᶜ b -ᶜ three ·ᶜ a *ᶜ c
+unfoldable pub p1-of : Complex → Complex → Complex → Complex
+p1-of a b c = b *ᶜ b -ᶜ 3 ·ᶜ a *ᶜ c
 
-unfoldable pub p2 : Complex → Complex → Complex → Complex → Complex
-p2 a b c d = two ·ᶜ b *ᶜ b *ᶜ b -ᶜ nine ·ᶜ a *ᶜ b *ᶜ c +ᶜ twenty-seven ·ᶜ a *ᶜ a *ᶜ d
+unfoldable pub p2-of : Complex → Complex → Complex → Complex → Complex
+p2-of a b c d = 2 ·ᶜ b *ᶜ b *ᶜ b -ᶜ 9 ·ᶜ a *ᶜ b *ᶜ c +ᶜ 27 ·ᶜ a *ᶜ a *ᶜ d
 
-unfoldable pub q1 : Complex → Complex → Complex
-q1 p1 p2 = cbrtᶜ (overᶜ (p2 +ᶜ sqrtᶜ (p2 *ᶜ p2 -ᶜ four ·ᶜ p1 *ᶜ p1 *ᶜ p1)) two)
+unfoldable pub q1-of : Complex → Complex → Complex
+q1-of p1 p2 = cbrtᶜ (overᶜ (p2 +ᶜ sqrtᶜ (p2 *ᶜ p2 -ᶜ 4 ·ᶜ p1 *ᶜ p1 *ᶜ p1)) two)
 
-unfoldable pub q2 : Complex → Complex → Complex
-q2 p1 p2 = cbrtᶜ (overᶜ (p2 +ᶜ sqrtᶜ (p2 *ᶜ p2 +ᶜ four ·ᶜ p1 *ᶜ p1 *ᶜ p1)) two)
+unfoldable pub q2-of : Complex → Complex → Complex
+q2-of p1 p2 = cbrtᶜ (overᶜ (p2 +ᶜ sqrtᶜ (p2 *ᶜ p2 +ᶜ 4 ·ᶜ p1 *ᶜ p1 *ᶜ p1)) two)
 
 -- -1.0 / (3.0 * a)
 unfoldable pub outer : Complex → Complex
-outer a = real-overᶜ (neg one) (three ·ᶜ a)
+outer a = real-overᶜ (neg one) (3 ·ᶜ a)
 
--- the root that e gives
+-- the root that e gives: -1.0 / (3.0 * a) * (b + e + p1 / e)
 abbrev pub root : Complex → Complex → Complex → Complex → Complex
 root a b p1 e = outer a *ᶜ (b +ᶜ e +ᶜ p1 /ᶜ e)
 
--- the roots of e0, e1 = e0 z and e2 = e1 z
 unfoldable pub three-roots : Complex → Complex → Complex → Complex → Roots
 three-roots a b p1 e0 =
     let e1 = e0 *ᶜ z in
@@ -52,9 +52,9 @@ solve-cubic-roots p =
     let c = p .c in
     let d = p .d in
     cond (lt (absᶜ a) epsilon) (solve-quadratic-roots (record { a = b; b = c; c = d }))
-    (let p1 = p1 a b c in
-    let p2 = p2 a b c d in
-    let q1 = q1 p1 p2 in
-    let q2 = q2 p1 p2 in
+    (let p1 = p1-of a b c in
+    let p2 = p2-of a b c d in
+    let q1 = q1-of p1 p2 in
+    let q2 = q2-of p1 p2 in
     cond (lt epsilon (absᶜ q1)) (three-roots a b p1 q1)
     (cond (lt epsilon (absᶜ q2)) (three-roots a b p1 q2) (one-root a b)))

@@ -1,18 +1,17 @@
--- subproblems/auxiliary.rs: solve_quadratic_roots. The degree falls where |a| < 1e-12.
+-- solve_quadratic_roots of subproblems/auxiliary.rs, by its names. Document 01: "Roots fall to the lower degree exactly if |a| < 1e-12": of a bx + c too, in |b|.
 use mathlib.Core.Bool.{cond}
 use mathlib.Core.List.{[], _∷_}
 use lib.Ieee.{lt}
-use Rattle.float.specs.Num.{two}
 use Rattle.complex.specs.Complex.{_+ᶜ_, _-ᶜ_, _*ᶜ_, _/ᶜ_, negᶜ, absᶜ, sqrtᶜ}
 use Rattle.complex.specs.declared.Complex.{Complex}
-use Rattle.polynomial.specs.Const.{four, epsilon}
+use Rattle.polynomial.specs.Const.{epsilon}
 use Rattle.polynomial.specs.Roots.{_·ᶜ_, in-slots}
 use Rattle.polynomial.specs.declared.Quadratic.{Quadratic}
 use Rattle.polynomial.specs.declared.Roots.{Roots}
 
--- the two roots; p is the root of the discriminant
+-- [(-b + p) / (2.0 * a), (-b - p) / (2.0 * a)]
 abbrev pub both : Complex → Complex → Complex → Roots
-both a b p = in-slots (((negᶜ b +ᶜ p) /ᶜ (two ·ᶜ a)) ∷ ((negᶜ b -ᶜ p) /ᶜ (two ·ᶜ a)) ∷ [])
+both a b p = in-slots (((negᶜ b +ᶜ p) /ᶜ (2 ·ᶜ a)) ∷ ((negᶜ b -ᶜ p) /ᶜ (2 ·ᶜ a)) ∷ [])
 
 unfoldable pub solve-quadratic-roots : Quadratic → Roots
 solve-quadratic-roots p =
@@ -21,4 +20,4 @@ solve-quadratic-roots p =
     let c = p .c in
     cond (lt (absᶜ a) epsilon)
     (cond (lt (absᶜ b) epsilon) (in-slots []) (in-slots ((negᶜ c /ᶜ b) ∷ [])))
-    (both a b (sqrtᶜ (b *ᶜ b -ᶜ four ·ᶜ a *ᶜ c)))
+    (let p = sqrtᶜ (b *ᶜ b -ᶜ 4 ·ᶜ a *ᶜ c) in both a b p)

@@ -1,9 +1,10 @@
 -- Roots of polynomials with complex coefficients: at most four, in four slots with a count.
+use Prim.Native.Nat.{ℕ}
 use mathlib.Core.Bool.{cond}
 use mathlib.Core.List.{List, [], _∷_}
 use lib.Ieee.{Float, lt}
 use lib.ListN.{length, take}
-use Rattle.float.specs.Num.{nought}
+use Rattle.float.specs.Num.{as-f64, nought}
 use Rattle.float.specs.Number.{abs}
 use Rattle.complex.specs.Complex.{scaleᶜ}
 use Rattle.complex.specs.declared.Complex.{Complex}
@@ -13,9 +14,9 @@ use Rattle.polynomial.specs.declared.Quartic.{Quartic}
 use Rattle.convolution.specs.declared.Vector5.{Vector5}
 
 infixl 7 _·ᶜ_
--- a real factor, as the Rust writes it: before the complex number
-abbrev pub _·ᶜ_ : Float → Complex → Complex
-s ·ᶜ z = scaleᶜ z s
+-- a whole factor, as the Rust writes it: 27 ·ᶜ z is 27.0 * z
+abbrev pub _·ᶜ_ : ℕ → Complex → Complex
+k ·ᶜ z = scaleᶜ z (as-f64 k)
 
 -- Complex::from_real
 abbrev pub from-real : Float → Complex

@@ -9,7 +9,7 @@ use crate::terms::times3;
 use complex::Complex;
 ghost use mathlib.Core.Path.{_≡_};
 ghost use Rattle.complex.specs.Complex.{_+ᶜ_, _*ᶜ_, _/ᶜ_};
-ghost use Rattle.polynomial.specs.Cubic.{z, p1, p2, q1, q2, outer, three-roots, one-root, solve-cubic-roots};
+ghost use Rattle.polynomial.specs.Cubic.{z, p1-of, p2-of, q1-of, q2-of, outer, three-roots, one-root, solve-cubic-roots};
 
 fn z() -> Complex
     ensures { λ r. ⌜ r ≡ z ⌝ }
@@ -20,27 +20,27 @@ fn z() -> Complex
 }
 
 fn p1(a: Complex, b: Complex, c: Complex) -> Complex
-    ensures { λ r. ⌜ r ≡ p1 a b c ⌝ }
+    ensures { λ r. ⌜ r ≡ p1-of a b c ⌝ }
 {
     complex::sub(complex::mul(b, b), times2(3.0, a, c))
 }
 
 fn p2(a: Complex, b: Complex, c: Complex, d: Complex) -> Complex
-    ensures { λ r. ⌜ r ≡ p2 a b c d ⌝ }
+    ensures { λ r. ⌜ r ≡ p2-of a b c d ⌝ }
 {
     let first = complex::sub(times3(2.0, b, b, b), times3(9.0, a, b, c));
     complex::add(first, times3(27.0, a, a, d))
 }
 
 fn q1(p1: Complex, p2: Complex) -> Complex
-    ensures { λ r. ⌜ r ≡ q1 p1 p2 ⌝ }
+    ensures { λ r. ⌜ r ≡ q1-of p1 p2 ⌝ }
 {
     let under = complex::sub(complex::mul(p2, p2), times3(4.0, p1, p1, p1));
     complex::cbrt(complex::over(complex::add(p2, complex::sqrt(under)), 2.0))
 }
 
 fn q2(p1: Complex, p2: Complex) -> Complex
-    ensures { λ r. ⌜ r ≡ q2 p1 p2 ⌝ }
+    ensures { λ r. ⌜ r ≡ q2-of p1 p2 ⌝ }
 {
     let under = complex::add(complex::mul(p2, p2), times3(4.0, p1, p1, p1));
     complex::cbrt(complex::over(complex::add(p2, complex::sqrt(under)), 2.0))

@@ -21,13 +21,6 @@ pub use quadratic_roots::solve_quadratic_roots;
 pub use reals::real_parts;
 pub use reals::real_quartic;
 
-pub struct Vector4 {
-    pub x: f64,
-    pub y: f64,
-    pub z: f64,
-    pub w: f64,
-}
-
 // Polynomials with complex coefficients, from the leading one on.
 pub struct Quadratic {
     pub a: Complex,
@@ -54,14 +47,4 @@ pub struct Quartic {
 pub struct Roots {
     pub slots: [Complex; 4],
     pub count: usize,
-}
-
-// The coefficients of an ellipse: a x x + b x y + c y y + d x + e y + f = 0.
-pub struct Conic {
-    pub a: f64,
-    pub b: f64,
-    pub c: f64,
-    pub d: f64,
-    pub e: f64,
-    pub f: f64,
 }

@@ -1,2 +1,2 @@
 pub mod Qr
-pub mod PolynomialValues
+pub mod Householder

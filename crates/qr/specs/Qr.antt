@@ -2,128 +2,93 @@
 -- "QR: Householder, column by column, on the part from the diagonal down. The vector v is that part with its norm added to the leading entry, with that entry's sign (plus at zero); a zero part is skipped.
 --  Each column w, of the matrix and of the identity that becomes Q transposed, becomes w - v × (2 × (v·w) / (v·v)).
 --  A negative diagonal entry of R negates its row of R and its column of Q. The last two columns of Q are the null vectors."
-use mathlib.Core.Bool.{Bool, cond, _&&_}
+-- A column is the list of its entries.
+use Prim.Native.Nat.{ℕ}
+use mathlib.Core.Bool.{Bool, true, cond, _&&_}
+use mathlib.Core.List.{List, [], _∷_, _++_, map}
 use lib.Ieee.{Float, neg, lt, eq}
+use lib.ListN.{getD, take, drop}
 use Rattle.float.specs.Num.{_⊕_, _⊖_, _⊗_, _⊘_, nought, one, two}
 use Rattle.float.specs.Root.{sqrt}
-use Rattle.linear.specs.Vector.{dot, norm}
-use Rattle.vector.specs.declared.Vector3.{Vector3}
-use Rattle.polynomial.specs.declared.Vector4.{Vector4}
+use Rattle.qr.specs.declared.Vector4.{Vector4}
 use Rattle.qr.specs.declared.QrFactors.{QrFactors}
-use Rattle.qr.specs.declared.householder.Reflection4.{Reflection4}
-use Rattle.qr.specs.declared.householder.Reflection3.{Reflection3}
-use Rattle.qr.specs.declared.householder.Columns4.{Columns4}
 
-abbrev pub vector-4 : Float → Float → Float → Float → Vector4
-vector-4 x y z w = record { x = x; y = y; z = z; w = w }
+abbrev pub entries : Vector4 → List Float
+entries a = a .x ∷ a .y ∷ a .z ∷ a .w ∷ []
+
+-- "Dot products add from the first term to the last": s, and what follows it
+abbrev pub added : Float → List Float → List Float → Float
+added s [] w = s
+added s (x ∷ v) [] = s
+added s (x ∷ v) (y ∷ w) = added (s ⊕ x ⊗ y) v w
+
+abbrev pub dot : List Float → List Float → Float
+dot [] w = nought
+dot (x ∷ v) [] = nought
+dot (x ∷ v) (y ∷ w) = added (x ⊗ y) v w
 
 -- x with its sign turned where the test says so
 abbrev pub turned : Bool → Float → Float
 turned t x = cond t (neg x) x
 
-abbrev pub turned-4 : Bool → Vector4 → Vector4
-turned-4 t a = vector-4 (turned t (a .x)) (turned t (a .y)) (turned t (a .z)) (turned t (a .w))
+-- "The vector v is that part with its norm added to the leading entry, with that entry's sign (plus at zero)"
+abbrev pub v-of : List Float → List Float
+v-of [] = []
+v-of (x ∷ p) = (x ⊕ turned (lt x nought) (sqrt (dot (x ∷ p) (x ∷ p)))) ∷ p
 
--- the leading entry x of a part, with the part's norm added: the norm is negative where x is below zero
-abbrev pub lead : Float → Float → Float
-lead x n = x ⊕ turned (lt x nought) n
+-- "a zero part is skipped"
+abbrev pub is-zero : List Float → Bool
+is-zero [] = true
+is-zero (x ∷ p) = eq x nought && is-zero p
 
-abbrev pub is-zero : Float → Bool
-is-zero x = eq x nought
+-- w - v × f
+abbrev pub less : List Float → List Float → Float → List Float
+less [] v f = []
+less (x ∷ w) [] f = x ∷ w
+less (x ∷ w) (y ∷ v) f = (x ⊖ y ⊗ f) ∷ less w v f
 
--- ---- the first column: the part of four
-abbrev pub dot-4 : Vector4 → Vector4 → Float
-dot-4 a b = a .x ⊗ b .x ⊕ a .y ⊗ b .y ⊕ a .z ⊗ b .z ⊕ a .w ⊗ b .w
+-- the step of the part p, of what stands beside that part in a column: "w - v × (2 × (v·w) / (v·v))"
+abbrev pub reflected : List Float → List Float → List Float
+reflected p w = let v = v-of p in cond (is-zero p) w (less w v (two ⊗ dot v w ⊘ dot v v))
 
-abbrev pub zero-4 : Vector4 → Bool
-zero-4 a = is-zero (a .x) && is-zero (a .y) && is-zero (a .z) && is-zero (a .w)
+-- the column w after the step of the column a at the diagonal's place k: what stands above stays
+unfoldable pub stepped : ℕ → List Float → List Float → List Float
+stepped k a w = take k w ++ reflected (drop k a) (drop k w)
 
--- the part a gives v and v·v; where it is zero, the reflection is skipped
-unfoldable pub reflection-4 : Vector4 → Reflection4
-reflection-4 a =
-    let v = vector-4 (lead (a .x) (sqrt (dot-4 a a))) (a .y) (a .z) (a .w) in
-    record { skip = zero-4 a; v = v; vv = dot-4 v v }
+-- the step of the column k, on each column
+abbrev pub step : ℕ → List (List Float) → List (List Float)
+step k m = map (stepped k (getD m k [])) m
 
--- the column w, reflected
-unfoldable pub reflect-4 : Reflection4 → Vector4 → Vector4
-reflect-4 m w =
-    let v = m .v in
-    let factor = two ⊗ dot-4 v w ⊘ m .vv in
-    cond (m .skip) w
-    (vector-4 (w .x ⊖ v .x ⊗ factor) (w .y ⊖ v .y ⊗ factor) (w .z ⊖ v .z ⊗ factor) (w .w ⊖ v .w ⊗ factor))
+abbrev pub identity : List (List Float)
+identity =
+    (one ∷ nought ∷ nought ∷ nought ∷ [])
+    ∷ (nought ∷ one ∷ nought ∷ nought ∷ [])
+    ∷ (nought ∷ nought ∷ one ∷ nought ∷ [])
+    ∷ (nought ∷ nought ∷ nought ∷ one ∷ [])
+    ∷ []
 
--- ---- the second column: the part of three, below the first row, which stays
-abbrev pub lower : Vector4 → Vector3
-lower a = record { x = a .y; y = a .z; z = a .w }
-
-abbrev pub zero-3 : Vector3 → Bool
-zero-3 a = is-zero (a .x) && is-zero (a .y) && is-zero (a .z)
-
-unfoldable pub reflection-3 : Vector3 → Reflection3
-reflection-3 a =
-    let v : Vector3 = record { x = lead (a .x) (norm a); y = a .y; z = a .z } in
-    record { skip = zero-3 a; v = v; vv = dot v v }
-
-unfoldable pub reflect-3 : Reflection3 → Vector4 → Vector4
-reflect-3 m w =
-    let v = m .v in
-    let factor = two ⊗ dot v (lower w) ⊘ m .vv in
-    cond (m .skip) w
-    (vector-4 (w .x) (w .y ⊖ v .x ⊗ factor) (w .z ⊖ v .y ⊗ factor) (w .w ⊖ v .z ⊗ factor))
-
--- ---- the factors of the matrix whose columns are a0 and a1
--- a column of the identity, by both reflections: a column of Q transposed
-abbrev pub both : Reflection4 → Reflection3 → Vector4 → Vector4
-both m n e = reflect-3 n (reflect-4 m e)
-
--- the columns of Q transposed: what the identity becomes
-unfoldable pub q-transposed : Reflection4 → Reflection3 → Columns4
-q-transposed m n =
-    record {
-      c0 = both m n (vector-4 one nought nought nought);
-      c1 = both m n (vector-4 nought one nought nought);
-      c2 = both m n (vector-4 nought nought one nought);
-      c3 = both m n (vector-4 nought nought nought one);
-    }
-
--- column j holds number j of each column
-unfoldable pub transposed : Columns4 → Columns4
-transposed m =
-    let a = m .c0 in
-    let b = m .c1 in
-    let c = m .c2 in
-    let d = m .c3 in
-    record {
-      c0 = vector-4 (a .x) (b .x) (c .x) (d .x);
-      c1 = vector-4 (a .y) (b .y) (c .y) (d .y);
-      c2 = vector-4 (a .z) (b .z) (c .z) (d .z);
-      c3 = vector-4 (a .w) (b .w) (c .w) (d .w);
-    }
-
--- the columns of Q, before any is negated
-abbrev pub columns : Reflection4 → Reflection3 → Columns4
-columns m n = transposed (q-transposed m n)
+-- row i: of the matrix it is a row of R, of the identity's columns, which are Q transposed, a column of Q
+abbrev pub row : ℕ → List (List Float) → List Float
+row i m = map (λ w. getD w i nought) m
 
 -- "A negative diagonal entry of R negates its row of R and its column of Q."
--- Only three entries of R are read. The one below the diagonal is 0.0, as in nalgebra's r().
-unfoldable pub signed : Columns4 → Float → Float → Float → QrFactors
-signed q r00 r01 r11 =
-    let first = lt r00 nought in
-    let second = lt r11 nought in
-    record {
-      q0 = turned-4 first (q .c0);
-      q1 = turned-4 second (q .c1);
-      q2 = q .c2;
-      q3 = q .c3;
-      r = record { m00 = turned first r00; m01 = turned first r01; m10 = nought; m11 = turned second r11 };
-    }
+abbrev pub signed : ℕ → List (List Float) → List Float
+signed i m = let r = row i m in map (turned (lt (getD r i nought) nought)) r
 
--- the second reflection leaves the first row
+-- the column of Q in a row: what stands after the two entries of R
+abbrev pub column : List Float → Vector4
+column r = record { x = getD r 2 nought; y = getD r 3 nought; z = getD r 4 nought; w = getD r 5 nought }
+
+-- The matrix has the columns a0 and a1. Only three entries of R are read; the one below the diagonal is 0.0, as in nalgebra's r().
 unfoldable pub qr : Vector4 → Vector4 → QrFactors
 qr a0 a1 =
-    let m = reflection-4 a0 in
-    let r0 = reflect-4 m a0 in
-    let r1 = reflect-4 m a1 in
-    let n = reflection-3 (lower r1) in
-    let s1 = reflect-3 n r1 in
-    signed (columns m n) (r0 .x) (r1 .x) (s1 .y)
+    let m = step 1 (step 0 (entries a0 ∷ entries a1 ∷ identity)) in
+    let r0 = signed 0 m in
+    let r1 = signed 1 m in
+    record {
+      q0 = column r0;
+      q1 = column r1;
+      q2 = column (row 2 m);
+      q3 = column (row 3 m);
+      r = record { m00 = getD r0 0 nought; m01 = getD r0 1 nought; m10 = nought; m11 = getD r1 1 nought };
+    }

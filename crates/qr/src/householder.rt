@@ -1,10 +1,14 @@
 // Householder's QR of a matrix of four rows and two columns.
 use crate::QrFactors;
+use crate::Vector4;
 use linear::Vector3;
 use polynomial::Matrix2;
-use polynomial::Vector4;
 ghost use mathlib.Core.Path.{_≡_};
-ghost use Rattle.qr.specs.Qr.{vector-4, turned, turned-4, lead, dot-4, zero-4, reflection-4, reflect-4, lower, zero-3, reflection-3, reflect-3, both, q-transposed, transposed, columns, signed, qr};
+ghost use mathlib.Core.List.{[], _∷_};
+ghost use lib.Ieee.{lt};
+ghost use Rattle.float.specs.Num.{_⊕_, nought};
+ghost use Rattle.qr.specs.Qr.{entries, dot, turned, is-zero, qr};
+ghost use Rattle.qr.specs.Householder.{vector-4, entries-3, lower, turned-4, reflection-4, reflection-3, reflect-4, reflect-3, both, columns, factors};
 
 // A reflection of vectors of four: by v, and by v·v. It is skipped where its part is zero.
 pub struct Reflection4 {
@@ -28,7 +32,7 @@ pub struct Columns4 {
 }
 
 fn vector_4(x: f64, y: f64, z: f64, w: f64) -> Vector4
-    ensures { λ r. ⌜ r ≡ vector-4 x y z w ⌝ }
+    ensures { λ r. ⌜ r ≡ vector-4 (x ∷ y ∷ z ∷ w ∷ []) ⌝ }
 {
     Vector4 { x, y, z, w }
 }
@@ -56,13 +60,13 @@ fn turned_4(t: bool, a: Vector4) -> Vector4
 
 // The leading entry, with the norm added on its side of zero.
 fn lead(x: f64, n: f64) -> f64
-    ensures { λ r. ⌜ r ≡ lead x n ⌝ }
+    ensures { λ r. ⌜ r ≡ x ⊕ turned (lt x nought) n ⌝ }
 {
     if x < 0.0 { x + -n } else { x + n }
 }
 
 fn dot_4(a: Vector4, b: Vector4) -> f64
-    ensures { λ r. ⌜ r ≡ dot-4 a b ⌝ }
+    ensures { λ r. ⌜ r ≡ dot (entries a) (entries b) ⌝ }
 {
     a.x * b.x + a.y * b.y + a.z * b.z + a.w * b.w
 }
@@ -78,7 +82,7 @@ fn lower(a: Vector4) -> Vector3
 }
 
 fn zero_3(a: Vector3) -> bool
-    ensures { λ r. ⌜ r ≡ zero-3 a ⌝ }
+    ensures { λ r. ⌜ r ≡ is-zero (entries-3 a) ⌝ }
 {
     if a.x == 0.0 {
         if a.y == 0.0 {
@@ -90,7 +94,7 @@ fn zero_3(a: Vector3) -> bool
 }
 
 fn zero_4(a: Vector4) -> bool
-    ensures { λ r. ⌜ r ≡ zero-4 a ⌝ }
+    ensures { λ r. ⌜ r ≡ is-zero (entries a) ⌝ }
 {
     if a.x == 0.0 {
         return zero_3(lower(a));
@@ -161,32 +165,21 @@ fn reflect_3(m: Reflection3, w: Vector4) -> Vector4
     }
 }
 
-// A column of the identity, by both reflections.
-fn both(m: Reflection4, n: Reflection3, e: Vector4) -> Vector4
-    ensures { λ r. ⌜ r ≡ both m n e ⌝ }
+// The column x, y, z, w of the identity, by both reflections.
+fn both(m: Reflection4, n: Reflection3, x: f64, y: f64, z: f64, w: f64) -> Vector4
+    ensures { λ r. ⌜ r ≡ both m n (x ∷ y ∷ z ∷ w ∷ []) ⌝ }
 {
-    reflect_3(n, reflect_4(m, e))
+    reflect_3(n, reflect_4(m, Vector4 { x, y, z, w }))
 }
 
-// The columns of Q transposed: what the identity becomes.
-fn q_transposed(m: Reflection4, n: Reflection3) -> Columns4
-    ensures { λ r. ⌜ r ≡ q-transposed m n ⌝ }
+// The columns of Q: a, b, c and d are those of Q transposed, what the identity becomes.
+fn columns(m: Reflection4, n: Reflection3) -> Columns4
+    ensures { λ r. ⌜ r ≡ columns m n ⌝ }
 {
-    Columns4 {
-        c0: both(m, n, vector_4(1.0, 0.0, 0.0, 0.0)),
-        c1: both(m, n, vector_4(0.0, 1.0, 0.0, 0.0)),
-        c2: both(m, n, vector_4(0.0, 0.0, 1.0, 0.0)),
-        c3: both(m, n, vector_4(0.0, 0.0, 0.0, 1.0)),
-    }
-}
-
-fn transposed(m: Columns4) -> Columns4
-    ensures { λ r. ⌜ r ≡ transposed m ⌝ }
-{
-    let a = m.c0;
-    let b = m.c1;
-    let c = m.c2;
-    let d = m.c3;
+    let a = both(m, n, 1.0, 0.0, 0.0, 0.0);
+    let b = both(m, n, 0.0, 1.0, 0.0, 0.0);
+    let c = both(m, n, 0.0, 0.0, 1.0, 0.0);
+    let d = both(m, n, 0.0, 0.0, 0.0, 1.0);
     Columns4 {
         c0: vector_4(a.x, b.x, c.x, d.x),
         c1: vector_4(a.y, b.y, c.y, d.y),
@@ -195,15 +188,9 @@ fn transposed(m: Columns4) -> Columns4
     }
 }
 
-fn columns(m: Reflection4, n: Reflection3) -> Columns4
-    ensures { λ r. ⌜ r ≡ columns m n ⌝ }
-{
-    transposed(q_transposed(m, n))
-}
-
 // The factors, with the diagonal of R made positive.
-fn signed(q: Columns4, r00: f64, r01: f64, r11: f64) -> QrFactors
-    ensures { λ r. ⌜ r ≡ signed q r00 r01 r11 ⌝ }
+fn factors(q: Columns4, r00: f64, r01: f64, r11: f64) -> QrFactors
+    ensures { λ r. ⌜ r ≡ factors q r00 r01 r11 ⌝ }
 {
     let c0 = q.c0;
     let c1 = q.c1;
@@ -234,5 +221,5 @@ pub fn qr(a0: Vector4, a1: Vector4) -> QrFactors
     let r1 = reflect_4(m, a1);
     let n = reflection_3(lower(r1));
     let s1 = reflect_3(n, r1);
-    signed(columns(m, n), r0.x, r1.x, s1.y)
+    factors(columns(m, n), r0.x, r1.x, s1.y)
 }

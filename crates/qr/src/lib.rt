@@ -3,7 +3,13 @@ mod householder;
 
 pub use householder::qr;
 use polynomial::Matrix2;
-use polynomial::Vector4;
+
+pub struct Vector4 {
+    pub x: f64,
+    pub y: f64,
+    pub z: f64,
+    pub w: f64,
+}
 
 // The four columns of Q, of which the last two are the null vectors, and R.
 pub struct QrFactors {

@@ -1,2 +1,1 @@
 pub mod Quartic
-pub mod RootCount

@@ -9,10 +9,10 @@ use polynomial::terms::times2;
 use polynomial::terms::times3;
 ghost use mathlib.Core.Path.{_≡_};
 ghost use Rattle.complex.specs.Complex.{_*ᶜ_, _/ᶜ_, negᶜ};
-ghost use Rattle.quartic.specs.Quartic.{p1, q1, p2, q2, p3, p4, p5, p6-over, p6, centre, minus-root, plus-root, four-roots, formula, solve-quartic-roots};
+ghost use Rattle.quartic.specs.Quartic.{p1-of, q1-of, p2-of, q2-of, p3-of, p4-of, p5-of, p6-over, p6-of, centre, minus-root, plus-root, four-roots, formula, solve-quartic-roots};
 
 fn p1(a: Complex, b: Complex, c: Complex, d: Complex, e: Complex) -> Complex
-    ensures { λ r. ⌜ r ≡ p1 a b c d e ⌝ }
+    ensures { λ r. ⌜ r ≡ p1-of a b c d e ⌝ }
 {
     let first = complex::sub(times3(2.0, c, c, c), times3(9.0, b, c, d));
     let second = complex::add(first, times3(27.0, a, d, d));
@@ -21,27 +21,27 @@ fn p1(a: Complex, b: Complex, c: Complex, d: Complex, e: Complex) -> Complex
 }
 
 fn q1(a: Complex, b: Complex, c: Complex, d: Complex, e: Complex) -> Complex
-    ensures { λ r. ⌜ r ≡ q1 a b c d e ⌝ }
+    ensures { λ r. ⌜ r ≡ q1-of a b c d e ⌝ }
 {
     let first = complex::sub(complex::mul(c, c), times2(3.0, b, d));
     complex::add(first, times2(12.0, a, e))
 }
 
 fn p2(p1: Complex, q1: Complex) -> Complex
-    ensures { λ r. ⌜ r ≡ p2 p1 q1 ⌝ }
+    ensures { λ r. ⌜ r ≡ p2-of p1 q1 ⌝ }
 {
     let under = complex::add(times3(-4.0, q1, q1, q1), complex::mul(p1, p1));
     complex::add(p1, complex::sqrt(under))
 }
 
 fn q2(p2: Complex) -> Complex
-    ensures { λ r. ⌜ r ≡ q2 p2 ⌝ }
+    ensures { λ r. ⌜ r ≡ q2-of p2 ⌝ }
 {
     complex::cbrt(complex::over(p2, 2.0))
 }
 
 fn p3(a: Complex, q1: Complex, q2: Complex) -> Complex
-    ensures { λ r. ⌜ r ≡ p3 a q1 q2 ⌝ }
+    ensures { λ r. ⌜ r ≡ p3-of a q1 q2 ⌝ }
 {
     let thrice = complex::scale(a, 3.0);
     let first = complex::div(q1, complex::mul(thrice, q2));
@@ -49,7 +49,7 @@ fn p3(a: Complex, q1: Complex, q2: Complex) -> Complex
 }
 
 fn p4(a: Complex, b: Complex, c: Complex, p3: Complex) -> Complex
-    ensures { λ r. ⌜ r ≡ p4 a b c p3 ⌝ }
+    ensures { λ r. ⌜ r ≡ p4-of a b c p3 ⌝ }
 {
     let first = complex::div(complex::mul(b, b), times2(4.0, a, a));
     let second = complex::div(complex::scale(c, 2.0), complex::scale(a, 3.0));
@@ -57,7 +57,7 @@ fn p4(a: Complex, b: Complex, c: Complex, p3: Complex) -> Complex
 }
 
 fn p5(a: Complex, b: Complex, c: Complex, p3: Complex) -> Complex
-    ensures { λ r. ⌜ r ≡ p5 a b c p3 ⌝ }
+    ensures { λ r. ⌜ r ≡ p5-of a b c p3 ⌝ }
 {
     let first = complex::div(complex::mul(b, b), times2(2.0, a, a));
     let second = complex::div(complex::scale(c, 4.0), complex::scale(a, 3.0));
@@ -84,7 +84,7 @@ fn p6_over(a: Complex, b: Complex, c: Complex, d: Complex) -> Complex
 }
 
 fn p6(a: Complex, b: Complex, c: Complex, d: Complex, p4: Complex) -> Complex
-    ensures { λ r. ⌜ r ≡ p6 a b c d p4 ⌝ }
+    ensures { λ r. ⌜ r ≡ p6-of a b c d p4 ⌝ }
 {
     complex::div(p6_over(a, b, c, d), complex::scale(p4, 4.0))
 }

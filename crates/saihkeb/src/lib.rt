@@ -1,12 +1,13 @@
 // The library that a controller links: the solve call, the block call and forward kinematics for C
 // and Rust (include/saihkeb.h is its manual). No call asks anything of its numbers or of its lists'
-// lengths: each equals its definition on every input.
+// lengths: each equals its definition on every input. A list is lent, so its pointer is never null;
+// the header's functions of the short names take a null pointer too.
 use solve::Solved;
 ghost use mathlib.Core.Path.{_≡_};
 ghost use lib.Seq.{sets};
 ghost use Rattle.answers.specs.Written.{room, written, flagged};
 ghost use Rattle.solve.specs.Solve.{answers, solve};
-ghost use Rattle.lines.specs.Lines.{solve-block, block-answers};
+ghost use Rattle.solve_block.specs.SolveBlock.{solve-block, block-answers};
 ghost use Rattle.forward.specs.Forward.{forward-refusal, forward-pose};
 ghost use Rattle.saihkeb.specs.Library.{counts-of};
 
@@ -23,7 +24,7 @@ fn report(s: Solved, counts: &mut [u64; 2]) -> u64
 // Document 01's solve call. The refusal is the result; the number of answers in the full list and
 // the number of evaluations go to `counts`.
 #[no_mangle]
-pub extern "C" fn saihkeb_solve(
+pub extern "C" fn saihkeb_solve_lent(
     family: u64,
     n: u64,
     arm: &[f64],
@@ -42,7 +43,7 @@ pub extern "C" fn saihkeb_solve(
 
 // The same for one block of 512 bytes, which is judged first: refusals 1 to 3.
 #[no_mangle]
-pub extern "C" fn saihkeb_solve_block(
+pub extern "C" fn saihkeb_solve_block_lent(
     block: &[u8],
     angles: &mut [f64],
     flags: &mut [u8],
@@ -53,13 +54,17 @@ pub extern "C" fn saihkeb_solve_block(
     ensures flags { λ _. ⌜ now (flags .exit) ≡ flagged (block-answers (now (block .entry))) (now (angles .entry)) (now (flags .entry)) ⌝ }
     ensures counts { λ _. ⌜ now (counts .exit) ≡ sets (now (counts .entry)) 0 (counts-of (solve-block (now (block .entry)) (room (now (angles .entry)) (now (flags .entry))))) ⌝ }
 {
-    report(lines::solve_block(block, angles, flags), counts)
+    report(solve_block::solve_block(block, angles, flags), counts)
 }
 
 // The pose of six angles. A list of another length than 39, 6 or 12 is refused, and the pose's list
 // is then left as it came.
 #[no_mangle]
-pub extern "C" fn saihkeb_forward_kinematics(arm: &[f64], angles: &[f64], pose: &mut [f64]) -> u64
+pub extern "C" fn saihkeb_forward_kinematics_lent(
+    arm: &[f64],
+    angles: &[f64],
+    pose: &mut [f64],
+) -> u64
     ensures result { λ r. ⌜ r ≡ forward-refusal (now (arm .entry)) (now (angles .entry)) (now (pose .entry)) ⌝ }
     ensures pose { λ _. ⌜ now (pose .exit) ≡ forward-pose (now (arm .entry)) (now (angles .entry)) (now (pose .entry)) ⌝ }
 {

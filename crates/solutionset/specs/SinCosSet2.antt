@@ -1,4 +1,4 @@
--- solutionset.rs, SolutionSet2 of (sin, cos) pairs: the answers of subproblem3_sc and subproblem4_sc. Document 01: "Where an answer is an enum, a definition gives this paper's
+-- solutionset.rs, SolutionSet2 of (sin, cos) pairs: the solutions of subproblem3_sc and subproblem4_sc. Document 01: "Where an answer is an enum, a definition gives this paper's
 -- number and values for each of its cases."
 use mathlib.Core.List.{List, [], _∷_}
 use Rattle.float.specs.declared.sine.SinCos.{SinCos}

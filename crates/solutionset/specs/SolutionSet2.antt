@@ -25,7 +25,7 @@ few Zero = omega arith
 few (One s) = omega arith
 few (Two s1 s2) = omega arith
 
--- the answer with the number i, of those that there are
+-- the solution with the number i, of those that there are
 abbrev pub at : SolutionSet2 → ℕ → Float
 at s i = getD (get-all s) i nought
 

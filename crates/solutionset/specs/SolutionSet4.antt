@@ -29,7 +29,7 @@ few (Two s1 s2) = omega arith
 few (Three s1 s2 s3) = omega arith
 few (Four s1 s2 s3 s4) = omega arith
 
--- the answer with the number i, of those that there are
+-- the solution with the number i, of those that there are
 abbrev pub at : SolutionSet4 → ℕ → Float
 at s i = getD (get-all s) i nought
 

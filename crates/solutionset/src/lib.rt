@@ -1,4 +1,4 @@
-// Solution sets: enums of up to two or four answers, with the answers in their cases. The Rust's
+// Solution sets: enums of up to two or four solutions, with the solutions in their cases. The Rust's
 // SolutionSet2<T> and SolutionSet4<T> are an enum for each T that the solvers use. Where the Rust
 // panics on a case, the method here asks its caller to show that the case does not arise; the arm
 // that stands for it gives 0.0. Sets of pairs stand in pairset and are named here too; sets of triples
@@ -15,7 +15,7 @@ pub use pairset::PairSet4;
 pub use pairset::PairSlots2;
 pub use pairset::PairSlots4;
 
-// The answers of a set in slots, and their number. A slot past the last answer holds 0.0.
+// The solutions of a set in slots, and their number. A slot past the last solution holds 0.0.
 pub struct Slots2 {
     pub slots: [f64; 2],
     pub count: usize,
@@ -47,7 +47,7 @@ pub enum SinCosSet2 {
 }
 
 impl SolutionSet2 {
-    // The answer of a set of one.
+    // The solution of a set of one.
     pub fn expect_one(self) -> f64
         requires { ⌜ SolutionSet2s.size self ≡ 1 ⌝ }
         ensures { λ r. ⌜ r ≡ SolutionSet2s.expect-one self ⌝ }
@@ -90,7 +90,7 @@ impl SolutionSet2 {
         }
     }
 
-    // The answers, in slots with their number.
+    // The solutions, in slots with their number.
     pub fn get_all(self) -> Slots2
         ensures { λ r. ⌜ r ≡ SolutionSet2s.slots (SolutionSet2s.get-all self) ⌝ }
     {
@@ -110,7 +110,7 @@ impl SolutionSet2 {
         }
     }
 
-    // The answer with the number i.
+    // The solution with the number i.
     pub fn at(self, i: usize) -> f64
         requires { ⌜ i < SolutionSet2s.size self ⌝ }
         ensures { λ r. ⌜ r ≡ SolutionSet2s.at self i ⌝ }
@@ -120,7 +120,7 @@ impl SolutionSet2 {
         slots[i]
     }
 
-    // One answer stands twice.
+    // One solution stands twice.
     pub fn duplicated(self) -> SolutionSet2
         ensures { λ r. ⌜ r ≡ SolutionSet2s.duplicated self ⌝ }
     {
@@ -211,7 +211,7 @@ impl SolutionSet4 {
         }
     }
 
-    // The answers, in slots with their number.
+    // The solutions, in slots with their number.
     pub fn get_all(self) -> Slots4
         ensures { λ r. ⌜ r ≡ SolutionSet4s.slots (SolutionSet4s.get-all self) ⌝ }
     {

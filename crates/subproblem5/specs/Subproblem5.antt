@@ -3,7 +3,7 @@
 use mathlib.Core.Bool.{cond}
 use mathlib.Core.List.{List, [], _∷_, flatMap}
 use lib.Ieee.{Float, lt, neg}
-use Rattle.float.specs.Num.{_⊕_, _⊖_, _⊗_, _⊘_, nought, one, millionth}
+use Rattle.float.specs.Num.{_⊕_, _⊖_, _⊗_, _⊘_, as-f64, nought, one, millionth}
 use Rattle.float.specs.Number.{abs}
 use Rattle.float.specs.Arctangent.{atan2}
 use Rattle.float.specs.Root.{sqrt}
@@ -12,7 +12,6 @@ use Rattle.linear.specs.Matrix.{apply, outer}
 use Rattle.vector.specs.declared.Vector3.{Vector3}
 use Rattle.tripleset.specs.declared.Triple.{Triple}
 use Rattle.tripleset.specs.declared.TripleSet4.{TripleSet4}
-use Rattle.polynomial.specs.Const.{four}
 use Rattle.convolution.specs.Convolution.{vec-self-convolve-2, vec-self-convolve-3, vec-convolve-3, cone-polynomials}
 use Rattle.quartic.specs.Quartic.{solve-quartic-roots}
 use Rattle.polynomial.specs.Roots.{roots, real-parts, real-quartic}
@@ -91,7 +90,7 @@ eqn-real cone-1 cone-3 =
     let p-13 = cone-1 .p -² cone-3 .p in
     let p-13-sq = vec-self-convolve-2 p-13 in
     let rhs = cone-3 .r -ᵛ cone-1 .r -ᵛ p-13-sq in
-    less⁵ (vec-self-convolve-3 rhs) four (vec-convolve-3 p-13-sq (cone-1 .r))
+    less⁵ (vec-self-convolve-3 rhs) (as-f64 4) (vec-convolve-3 p-13-sq (cone-1 .r))
 
 -- all_roots, .filter(|c| c.im.abs() < EPSILON).map(|c| c.re)
 unfoldable pub h-vec : Cone → Cone → List Float

@@ -15,7 +15,7 @@ use Rattle.qr.specs.Qr.{qr}
 use Rattle.convolution.specs.Triangular.{solve-lower-triangular-system-2x2}
 use Rattle.ellipse.specs.Ellipse.{transpose-2, solve-two-ellipse-numeric}
 use Rattle.convolution.specs.declared.Vector2.{Vector2}
-use Rattle.polynomial.specs.declared.Vector4.{Vector4}
+use Rattle.qr.specs.declared.Vector4.{Vector4}
 use Rattle.subproblems.specs.Columns.{columns, along}
 use Rattle.subproblem6.specs.declared.Plane.{Plane}
 

@@ -3,7 +3,7 @@ use crate::Plane;
 use linear::Vector3;
 use polynomial::Matrix2;
 use polynomial::Vector2;
-use polynomial::Vector4;
+use qr::Vector4;
 use solutionset::Pair;
 use solutionset::PairSet4;
 use subproblems::shared::along;

@@ -9,7 +9,4 @@ unfolding vec-convolve-3
 returns c = refl
 
 pub vec-convolve-3-spec : {M : Type 1} → statement M
-vec-convolve-3-spec =
-    tie.close
-    (tie.spec
-    returns)
+vec-convolve-3-spec = tie.close (tie.spec returns)

@@ -6,8 +6,4 @@ returns : tie.Need-returns
 returns c = cc
 
 pub point-spec : {M : Type 1} → statement M
-point-spec =
-    tie.close
-    (tie.spec
-    (λ _ _. tt)
-    returns)
+point-spec = tie.close (tie.spec (λ _ _. tt) returns)

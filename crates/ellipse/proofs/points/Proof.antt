@@ -9,7 +9,7 @@ use Rattle.pairset.specs.PairSet4.{from-vec}
 use Rattle.pairset.specs.declared.Pair.{Pair}
 use Rattle.pairset.specs.declared.PairSet4.{PairSet4}
 use Rattle.ellipse.specs.Ellipse.{point}
-use Rattle.polynomial.specs.declared.Conic.{Conic}
+use Rattle.ellipse.specs.declared.Conic.{Conic}
 use Rattle.ellipse.proofs.PointSlots.{of-slots}
 use Rattle.ellipse.proofs.points.Statement.{statement}
 use Rattle.ellipse.proofs.points.Tie as tie

@@ -2,7 +2,7 @@
 use mathlib.Core.Path.{_≡_}
 use lib.Ieee.{Float}
 use Rattle.ellipse.specs.Ellipse.{z0, z1, z2, z3, z4, quartic-in-y}
-use Rattle.polynomial.specs.declared.Conic.{Conic}
+use Rattle.ellipse.specs.declared.Conic.{Conic}
 use Rattle.convolution.specs.declared.Vector5.{Vector5}
 use Rattle.ellipse.proofs.quartic_in_y.Statement.{statement}
 use Rattle.ellipse.proofs.quartic_in_y.Tie as tie
@@ -21,12 +21,4 @@ returns : tie.Need-returns
 returns c = search met
 
 pub quartic-in-y-spec : {M : Type 1} → statement M
-quartic-in-y-spec =
-    tie.close
-    (tie.spec
-    (λ _ _. tt)
-    (λ _ _. tt)
-    (λ _ _. tt)
-    (λ _ _. tt)
-    (λ _ _. tt)
-    returns)
+quartic-in-y-spec = tie.close (tie.spec (λ _ _. tt) (λ _ _. tt) (λ _ _. tt) (λ _ _. tt) (λ _ _. tt) returns)

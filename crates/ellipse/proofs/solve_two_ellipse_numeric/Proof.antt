@@ -12,9 +12,9 @@ use Rattle.solutionset.specs.declared.Slots4.{Slots4}
 use Rattle.polynomial.specs.Const.{epsilon}
 use Rattle.polynomial.specs.Roots.{roots, real-parts, real-quartic}
 use Rattle.quartic.specs.Quartic.{solve-quartic-roots}
-use Rattle.quartic.specs.RootCount.{few-real}
-use Rattle.ellipse.specs.Ellipse.{conic, quartic-in-y, point, solve-two-ellipse-numeric}
-use Rattle.polynomial.specs.declared.Conic.{Conic}
+use Rattle.quartic.proofs.RootCount.{few-real}
+use Rattle.ellipse.specs.Ellipse.{coefficients, quartic-in-y, point, solve-two-ellipse-numeric}
+use Rattle.ellipse.specs.declared.Conic.{Conic}
 use Rattle.convolution.specs.declared.Matrix2.{Matrix2}
 use Rattle.polynomial.specs.declared.Quartic.{Quartic}
 use Rattle.polynomial.specs.declared.Roots.{Roots}
@@ -32,8 +32,8 @@ fits tolerance q e f = rw (f, e) (few-real tolerance q)
 
 module _ (xm1 : Vector2) (xn1 : Matrix2) (xm2 : Vector2) (xn2 : Matrix2) where
   met : {g h : Conic} {v : Vector5} {q : Quartic} {found : Roots} {reals : Slots4} {r : PairSet4}
-      → g ≡ conic xm1 xn1
-      → h ≡ conic xm2 xn2
+      → g ≡ coefficients xm1 xn1
+      → h ≡ coefficients xm2 xn2
       → v ≡ quartic-in-y g h
       → q ≡ real-quartic v
       → found ≡ solve-quartic-roots q
@@ -53,14 +53,4 @@ returns : tie.Need-returns
 returns c = search met
 
 pub solve-two-ellipse-numeric-spec : {M : Type 1} → statement M
-solve-two-ellipse-numeric-spec =
-    tie.close
-    (tie.spec
-    (λ _ _. tt)
-    (λ _ _. tt)
-    (λ _ _. tt)
-    (λ _ _. tt)
-    (λ _ _. tt)
-    (λ _ _. tt)
-    points-requires
-    returns)
+solve-two-ellipse-numeric-spec = tie.close (tie.spec (λ _ _. tt) (λ _ _. tt) (λ _ _. tt) (λ _ _. tt) (λ _ _. tt) (λ _ _. tt) points-requires returns)

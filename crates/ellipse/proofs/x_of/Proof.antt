@@ -9,7 +9,4 @@ unfolding x-of
 returns c = refl
 
 pub x-of-spec : {M : Type 1} → statement M
-x-of-spec =
-    tie.close
-    (tie.spec
-    returns)
+x-of-spec = tie.close (tie.spec returns)

@@ -9,7 +9,4 @@ unfolding z0
 returns c = refl
 
 pub z0-spec : {M : Type 1} → statement M
-z0-spec =
-    tie.close
-    (tie.spec
-    returns)
+z0-spec = tie.close (tie.spec returns)

@@ -9,7 +9,4 @@ unfolding z1
 returns c = refl
 
 pub z1-spec : {M : Type 1} → statement M
-z1-spec =
-    tie.close
-    (tie.spec
-    returns)
+z1-spec = tie.close (tie.spec returns)

@@ -9,7 +9,4 @@ unfolding z2
 returns c = refl
 
 pub z2-spec : {M : Type 1} → statement M
-z2-spec =
-    tie.close
-    (tie.spec
-    returns)
+z2-spec = tie.close (tie.spec returns)

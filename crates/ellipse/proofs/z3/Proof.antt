@@ -9,7 +9,4 @@ unfolding z3
 returns c = refl
 
 pub z3-spec : {M : Type 1} → statement M
-z3-spec =
-    tie.close
-    (tie.spec
-    returns)
+z3-spec = tie.close (tie.spec returns)

@@ -9,7 +9,4 @@ unfolding z4
 returns c = refl
 
 pub z4-spec : {M : Type 1} → statement M
-z4-spec =
-    tie.close
-    (tie.spec
-    returns)
+z4-spec = tie.close (tie.spec returns)

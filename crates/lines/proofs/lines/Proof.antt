@@ -9,9 +9,11 @@ use Rattle.answers.specs.Written.{room, written, flagged}
 use Rattle.solve.specs.declared.Solved.{Solved}
 use Rattle.text.specs.Text.{Put}
 use Rattle.text.specs.Lists.{head, lines-of}
-use Rattle.lines.specs.Lines.{solve-block, block-answers, lines}
+use Rattle.solve_block.specs.SolveBlock.{solve-block, block-answers}
+use Rattle.solve_block.proofs.Counted.{counted}
+use Rattle.lines.specs.Lines.{lines}
 use Rattle.text.proofs.Laws.{both}
-use Rattle.lines.proofs.Printed.{counted, printed}
+use Rattle.lines.proofs.Printed.{printed}
 use Rattle.lines.proofs.lines.Statement.{statement}
 use Rattle.lines.proofs.lines.Tie as tie
 

@@ -8,10 +8,4 @@ unfolding minus-root
 returns c = cc
 
 pub minus-root-spec : {M : Type 1} → statement M
-minus-root-spec =
-    tie.close
-    (tie.spec
-    (λ _ _. tt)
-    (λ _ _. tt)
-    (λ _ _. tt)
-    returns)
+minus-root-spec = tie.close (tie.spec (λ _ _. tt) (λ _ _. tt) (λ _ _. tt) returns)

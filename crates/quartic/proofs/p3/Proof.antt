@@ -1,19 +1,12 @@
 -- The calls' equations, joined.
-use Rattle.quartic.specs.Quartic.{p3}
+use lib.Ieee.{ofInt, ofBits}
+use Rattle.quartic.specs.Quartic.{p3-of}
 use Rattle.quartic.proofs.p3.Statement.{statement}
 use Rattle.quartic.proofs.p3.Tie as tie
 
 returns : tie.Need-returns
-unfolding p3
+unfolding p3-of ofInt ofBits
 returns c = cc
 
 pub p3-spec : {M : Type 1} → statement M
-p3-spec =
-    tie.close
-    (tie.spec
-    (λ _ _. tt)
-    (λ _ _. tt)
-    (λ _ _. tt)
-    (λ _ _. tt)
-    (λ _ _. tt)
-    returns)
+p3-spec = tie.close (tie.spec (λ _ _. tt) (λ _ _. tt) (λ _ _. tt) (λ _ _. tt) (λ _ _. tt) returns)

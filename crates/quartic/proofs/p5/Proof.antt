@@ -1,22 +1,12 @@
 -- The calls' equations, joined.
-use Rattle.quartic.specs.Quartic.{p5}
+use lib.Ieee.{ofInt, ofBits}
+use Rattle.quartic.specs.Quartic.{p5-of}
 use Rattle.quartic.proofs.p5.Statement.{statement}
 use Rattle.quartic.proofs.p5.Tie as tie
 
 returns : tie.Need-returns
-unfolding p5
+unfolding p5-of ofInt ofBits
 returns c = cc
 
 pub p5-spec : {M : Type 1} → statement M
-p5-spec =
-    tie.close
-    (tie.spec
-    (λ _ _. tt)
-    (λ _ _. tt)
-    (λ _ _. tt)
-    (λ _ _. tt)
-    (λ _ _. tt)
-    (λ _ _. tt)
-    (λ _ _. tt)
-    (λ _ _. tt)
-    returns)
+p5-spec = tie.close (tie.spec (λ _ _. tt) (λ _ _. tt) (λ _ _. tt) (λ _ _. tt) (λ _ _. tt) (λ _ _. tt) (λ _ _. tt) (λ _ _. tt) returns)

@@ -1,17 +1,12 @@
 -- The calls' equations, joined.
-use Rattle.quartic.specs.Quartic.{p6}
+use lib.Ieee.{ofInt, ofBits}
+use Rattle.quartic.specs.Quartic.{p6-of}
 use Rattle.quartic.proofs.p6.Statement.{statement}
 use Rattle.quartic.proofs.p6.Tie as tie
 
 returns : tie.Need-returns
-unfolding p6
+unfolding p6-of ofInt ofBits
 returns c = cc
 
 pub p6-spec : {M : Type 1} → statement M
-p6-spec =
-    tie.close
-    (tie.spec
-    (λ _ _. tt)
-    (λ _ _. tt)
-    (λ _ _. tt)
-    returns)
+p6-spec = tie.close (tie.spec (λ _ _. tt) (λ _ _. tt) (λ _ _. tt) returns)

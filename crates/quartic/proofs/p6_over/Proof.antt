@@ -1,8 +1,8 @@
 -- The calls, one equation each.
 use mathlib.Core.Path.{_≡_}
-use Rattle.complex.specs.Complex.{_+ᶜ_, _-ᶜ_, _*ᶜ_, _/ᶜ_, negᶜ, scaleᶜ}
+use lib.Ieee.{ofInt, ofBits}
+use Rattle.complex.specs.Complex.{_+ᶜ_, _-ᶜ_, _*ᶜ_, _/ᶜ_, negᶜ}
 use Rattle.complex.specs.declared.Complex.{Complex}
-use Rattle.polynomial.specs.Const.{four, eight}
 use Rattle.polynomial.specs.Roots.{_·ᶜ_}
 use Rattle.quartic.specs.Quartic.{p6-over}
 use Rattle.quartic.proofs.p6_over.Statement.{statement}
@@ -11,9 +11,9 @@ use Rattle.quartic.proofs.p6_over.Tie as tie
 met : (a b c d : Complex) {first bc aa second d₈ third sum r : Complex}
     → first ≡ negᶜ (b *ᶜ b *ᶜ b) /ᶜ (a *ᶜ a *ᶜ a)
     → aa ≡ a *ᶜ a
-    → bc ≡ four ·ᶜ b *ᶜ c
+    → bc ≡ 4 ·ᶜ b *ᶜ c
     → second ≡ bc /ᶜ aa
-    → d₈ ≡ scaleᶜ d eight
+    → d₈ ≡ 8 ·ᶜ d
     → third ≡ d₈ /ᶜ a
     → sum ≡ first +ᶜ second
     → r ≡ sum -ᶜ third
@@ -22,18 +22,8 @@ unfolding p6-over
 met a b c d e1 e2 e3 e4 e5 e6 e7 e8 = cc
 
 returns : tie.Need-returns
+unfolding ofInt ofBits
 returns c = search met
 
 pub p6-over-spec : {M : Type 1} → statement M
-p6-over-spec =
-    tie.close
-    (tie.spec
-    (λ _ _. tt)
-    (λ _ _. tt)
-    (λ _ _. tt)
-    (λ _ _. tt)
-    (λ _ _. tt)
-    (λ _ _. tt)
-    (λ _ _. tt)
-    (λ _ _. tt)
-    returns)
+p6-over-spec = tie.close (tie.spec (λ _ _. tt) (λ _ _. tt) (λ _ _. tt) (λ _ _. tt) (λ _ _. tt) (λ _ _. tt) (λ _ _. tt) (λ _ _. tt) returns)

@@ -8,10 +8,4 @@ unfolding plus-root
 returns c = cc
 
 pub plus-root-spec : {M : Type 1} → statement M
-plus-root-spec =
-    tie.close
-    (tie.spec
-    (λ _ _. tt)
-    (λ _ _. tt)
-    (λ _ _. tt)
-    returns)
+plus-root-spec = tie.close (tie.spec (λ _ _. tt) (λ _ _. tt) (λ _ _. tt) returns)

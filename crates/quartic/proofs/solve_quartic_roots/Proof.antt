@@ -27,11 +27,4 @@ returns-2 : tie.Need-returns-2
 returns-2 c = search whole
 
 pub solve-quartic-roots-spec : {M : Type 1} → statement M
-solve-quartic-roots-spec =
-    tie.close
-    (tie.spec
-    (λ _ _. tt)
-    (λ _ _. tt)
-    returns
-    (λ _ _. tt)
-    returns-2)
+solve-quartic-roots-spec = tie.close (tie.spec (λ _ _. tt) (λ _ _. tt) returns (λ _ _. tt) returns-2)

@@ -9,7 +9,4 @@ unfolding solve-lower-triangular-system-2x2
 returns c = refl
 
 pub solve-lower-triangular-system-2x2-spec : {M : Type 1} → statement M
-solve-lower-triangular-system-2x2-spec =
-    tie.close
-    (tie.spec
-    returns)
+solve-lower-triangular-system-2x2-spec = tie.close (tie.spec returns)

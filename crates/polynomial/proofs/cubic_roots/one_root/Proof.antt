@@ -8,9 +8,4 @@ unfolding one-root
 returns c = cc
 
 pub one-root-spec : {M : Type 1} → statement M
-one-root-spec =
-    tie.close
-    (tie.spec
-    (λ _ _. tt)
-    (λ _ _. tt)
-    returns)
+one-root-spec = tie.close (tie.spec (λ _ _. tt) (λ _ _. tt) returns)

@@ -6,11 +6,4 @@ returns : tie.Need-returns
 returns c = cc
 
 pub root-spec : {M : Type 1} → statement M
-root-spec =
-    tie.close
-    (tie.spec
-    (λ _ _. tt)
-    (λ _ _. tt)
-    (λ _ _. tt)
-    (λ _ _. tt)
-    returns)
+root-spec = tie.close (tie.spec (λ _ _. tt) (λ _ _. tt) (λ _ _. tt) (λ _ _. tt) returns)

@@ -6,7 +6,7 @@ use Rattle.complex.specs.Complex.{absᶜ}
 use Rattle.complex.specs.declared.Complex.{Complex}
 use Rattle.polynomial.specs.Const.{epsilon}
 use Rattle.polynomial.specs.Quadratic.{solve-quadratic-roots}
-use Rattle.polynomial.specs.Cubic.{p1, p2, q1, q2, three-roots, one-root, solve-cubic-roots}
+use Rattle.polynomial.specs.Cubic.{p1-of, p2-of, q1-of, q2-of, three-roots, one-root, solve-cubic-roots}
 use Rattle.polynomial.specs.declared.Cubic.{Cubic}
 use Rattle.polynomial.specs.declared.Roots.{Roots}
 use Rattle.polynomial.proofs.cubic_roots.solve_cubic_roots.Statement.{statement}
@@ -19,9 +19,9 @@ module _ (p : Cubic) {n : Float} {r : Roots} (e-n : n ≡ absᶜ (p .a)) where
 
   module _ {s1 s2 t1 : Complex} {m : Float}
       (t : lt n epsilon ≡ false)
-      (e-s1 : s1 ≡ p1 (p .a) (p .b) (p .c))
-      (e-s2 : s2 ≡ p2 (p .a) (p .b) (p .c) (p .d))
-      (e-t1 : t1 ≡ q1 s1 s2)
+      (e-s1 : s1 ≡ p1-of (p .a) (p .b) (p .c))
+      (e-s2 : s2 ≡ p2-of (p .a) (p .b) (p .c) (p .d))
+      (e-t1 : t1 ≡ q1-of s1 s2)
       (e-m : m ≡ absᶜ t1)
     where
       by-q1 : lt epsilon m ≡ true → r ≡ three-roots (p .a) (p .b) s1 t1 → r ≡ solve-cubic-roots p
@@ -30,7 +30,7 @@ module _ (p : Cubic) {n : Float} {r : Roots} (e-n : n ≡ absᶜ (p .a)) where
 
       by-q2 : {t2 : Complex} {l : Float}
           → lt epsilon m ≡ false
-          → t2 ≡ q2 s1 s2
+          → t2 ≡ q2-of s1 s2
           → l ≡ absᶜ t2
           → lt epsilon l ≡ true
           → r ≡ three-roots (p .a) (p .b) s1 t2
@@ -40,7 +40,7 @@ module _ (p : Cubic) {n : Float} {r : Roots} (e-n : n ≡ absᶜ (p .a)) where
 
       by-neither : {t2 : Complex} {l : Float}
           → lt epsilon m ≡ false
-          → t2 ≡ q2 s1 s2
+          → t2 ≡ q2-of s1 s2
           → l ≡ absᶜ t2
           → lt epsilon l ≡ false
           → r ≡ one-root (p .a) (p .b)

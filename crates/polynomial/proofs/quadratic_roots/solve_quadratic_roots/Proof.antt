@@ -2,10 +2,10 @@
 use mathlib.Core.Path.{_≡_}
 use mathlib.Core.Bool.{true, false}
 use mathlib.Core.List.{[], _∷_}
-use lib.Ieee.{Float, lt}
+use lib.Ieee.{Float, lt, ofInt, ofBits}
 use Rattle.complex.specs.Complex.{_-ᶜ_, _*ᶜ_, _/ᶜ_, negᶜ, absᶜ, sqrtᶜ}
 use Rattle.complex.specs.declared.Complex.{Complex}
-use Rattle.polynomial.specs.Const.{four, epsilon}
+use Rattle.polynomial.specs.Const.{epsilon}
 use Rattle.polynomial.specs.Roots.{_·ᶜ_, in-slots}
 use Rattle.polynomial.specs.Quadratic.{both, solve-quadratic-roots}
 use Rattle.polynomial.specs.declared.Quadratic.{Quadratic}
@@ -31,7 +31,7 @@ module _ (p : Quadratic) {n : Float} (e-n : n ≡ absᶜ (p .a)) where
   two-roots : {bb ac d s : Complex} {r : Roots}
       → lt n epsilon ≡ false
       → bb ≡ p .b *ᶜ p .b
-      → ac ≡ four ·ᶜ p .a *ᶜ p .c
+      → ac ≡ 4 ·ᶜ p .a *ᶜ p .c
       → d ≡ bb -ᶜ ac
       → s ≡ sqrtᶜ d
       → r ≡ both (p .a) (p .b) s
@@ -46,6 +46,7 @@ returns-2 : tie.Need-returns-2
 returns-2 c = search only
 
 returns-3 : tie.Need-returns-3
+unfolding ofInt ofBits
 returns-3 c = search two-roots
 
 pub solve-quadratic-roots-spec : {M : Type 1} → statement M

@@ -6,9 +6,4 @@ returns : tie.Need-returns
 returns c = cc
 
 pub times2-spec : {M : Type 1} → statement M
-times2-spec =
-    tie.close
-    (tie.spec
-    (λ _ _. tt)
-    (λ _ _. tt)
-    returns)
+times2-spec = tie.close (tie.spec (λ _ _. tt) (λ _ _. tt) returns)

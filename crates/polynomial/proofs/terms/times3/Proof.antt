@@ -6,9 +6,4 @@ returns : tie.Need-returns
 returns c = cc
 
 pub times3-spec : {M : Type 1} → statement M
-times3-spec =
-    tie.close
-    (tie.spec
-    (λ _ _. tt)
-    (λ _ _. tt)
-    returns)
+times3-spec = tie.close (tie.spec (λ _ _. tt) (λ _ _. tt) returns)

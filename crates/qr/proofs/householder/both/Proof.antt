@@ -6,9 +6,4 @@ returns : tie.Need-returns
 returns c = cc
 
 pub both-spec : {M : Type 1} → statement M
-both-spec =
-    tie.close
-    (tie.spec
-    (λ _ _. tt)
-    (λ _ _. tt)
-    returns)
+both-spec = tie.close (tie.spec (λ _ _. tt) (λ _ _. tt) returns)

@@ -1,12 +1,14 @@
 -- The calls, one equation each.
 use mathlib.Core.Path.{_≡_}
 use Rattle.vector.specs.declared.Vector3.{Vector3}
-use Rattle.polynomial.specs.declared.Vector4.{Vector4}
-use Rattle.qr.specs.Qr.{reflection-4, reflect-4, lower, reflection-3, reflect-3, columns, signed, qr}
+use Rattle.qr.specs.Qr.{qr}
+use Rattle.qr.specs.Householder.{lower, reflection-4, reflection-3, reflect-4, reflect-3, columns, factors}
+use Rattle.qr.specs.declared.Vector4.{Vector4}
 use Rattle.qr.specs.declared.QrFactors.{QrFactors}
 use Rattle.qr.specs.declared.householder.Reflection4.{Reflection4}
 use Rattle.qr.specs.declared.householder.Reflection3.{Reflection3}
 use Rattle.qr.specs.declared.householder.Columns4.{Columns4}
+use Rattle.qr.proofs.Steps.{steps}
 use Rattle.qr.proofs.householder.qr.Statement.{statement}
 use Rattle.qr.proofs.householder.qr.Tie as tie
 
@@ -18,24 +20,12 @@ met : (a0 a1 : Vector4) {m : Reflection4} {n : Reflection3} {r0 r1 s1 : Vector4}
     → n ≡ reflection-3 part
     → s1 ≡ reflect-3 n r1
     → q ≡ columns m n
-    → r ≡ signed q (r0 .x) (r1 .x) (s1 .y)
+    → r ≡ factors q (r0 .x) (r1 .x) (s1 .y)
     → r ≡ qr a0 a1
-unfolding qr
-met a0 a1 e1 e2 e3 e4 e5 e6 e7 e8 = cc
+met a0 a1 e1 e2 e3 e4 e5 e6 e7 e8 = cc (steps a0 a1)
 
 returns : tie.Need-returns
 returns c = search met
 
 pub qr-spec : {M : Type 1} → statement M
-qr-spec =
-    tie.close
-    (tie.spec
-    (λ _ _. tt)
-    (λ _ _. tt)
-    (λ _ _. tt)
-    (λ _ _. tt)
-    (λ _ _. tt)
-    (λ _ _. tt)
-    (λ _ _. tt)
-    (λ _ _. tt)
-    returns)
+qr-spec = tie.close (tie.spec (λ _ _. tt) (λ _ _. tt) (λ _ _. tt) (λ _ _. tt) (λ _ _. tt) (λ _ _. tt) (λ _ _. tt) (λ _ _. tt) returns)

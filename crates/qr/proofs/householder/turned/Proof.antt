@@ -9,8 +9,4 @@ returns-2 : tie.Need-returns-2
 returns-2 c = cc
 
 pub turned-spec : {M : Type 1} → statement M
-turned-spec =
-    tie.close
-    (tie.spec
-    returns
-    returns-2)
+turned-spec = tie.close (tie.spec returns returns-2)

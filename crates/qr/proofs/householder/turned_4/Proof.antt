@@ -1,9 +1,9 @@
 -- Each arm by its test.
 use mathlib.Core.Path.{_≡_}
 use mathlib.Core.Bool.{Bool, true, false}
-use Rattle.polynomial.specs.declared.Vector4.{Vector4}
-use Rattle.qr.specs.Qr.{turned-4}
 use lib.Ieee.{neg}
+use Rattle.qr.specs.Householder.{turned-4}
+use Rattle.qr.specs.declared.Vector4.{Vector4}
 use Rattle.qr.proofs.householder.turned_4.Statement.{statement}
 use Rattle.qr.proofs.householder.turned_4.Tie as tie
 
@@ -21,8 +21,4 @@ returns-2 : tie.Need-returns-2
 returns-2 c = search kept
 
 pub turned-4-spec : {M : Type 1} → statement M
-turned-4-spec =
-    tie.close
-    (tie.spec
-    returns
-    returns-2)
+turned-4-spec = tie.close (tie.spec returns returns-2)

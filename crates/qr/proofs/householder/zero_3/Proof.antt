@@ -1,21 +1,22 @@
 -- Each way by its tests.
 use mathlib.Core.Path.{_≡_}
-use mathlib.Core.Bool.{true, false}
-use Rattle.vector.specs.declared.Vector3.{Vector3}
+use mathlib.Core.Bool.{true, false, and-true}
 use lib.Ieee.{eq}
 use Rattle.float.specs.Num.{nought}
-use Rattle.qr.specs.Qr.{zero-3}
+use Rattle.vector.specs.declared.Vector3.{Vector3}
+use Rattle.qr.specs.Qr.{is-zero}
+use Rattle.qr.specs.Householder.{entries-3}
 use Rattle.qr.proofs.householder.zero_3.Statement.{statement}
 use Rattle.qr.proofs.householder.zero_3.Tie as tie
 
 module _ (a : Vector3) where
-  last : eq (a .x) nought ≡ true → eq (a .y) nought ≡ true → eq (a .z) nought ≡ zero-3 a
-  last e f = rw (e, f)
+  last : eq (a .x) nought ≡ true → eq (a .y) nought ≡ true → eq (a .z) nought ≡ is-zero (entries-3 a)
+  last e f = rw (e, f, and-true)
 
-  second : eq (a .x) nought ≡ true → eq (a .y) nought ≡ false → false ≡ zero-3 a
+  second : eq (a .x) nought ≡ true → eq (a .y) nought ≡ false → false ≡ is-zero (entries-3 a)
   second e f = rw (e, f)
 
-  first : eq (a .x) nought ≡ false → false ≡ zero-3 a
+  first : eq (a .x) nought ≡ false → false ≡ is-zero (entries-3 a)
   first e = rw e
 
 returns : tie.Need-returns
@@ -28,9 +29,4 @@ returns-3 : tie.Need-returns-3
 returns-3 c = search first
 
 pub zero-3-spec : {M : Type 1} → statement M
-zero-3-spec =
-    tie.close
-    (tie.spec
-    returns
-    returns-2
-    returns-3)
+zero-3-spec = tie.close (tie.spec returns returns-2 returns-3)

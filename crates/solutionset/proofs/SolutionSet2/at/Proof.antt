@@ -1,4 +1,4 @@
--- The slot with the number i holds the answer with that number.
+-- The slot with the number i holds the solution with that number.
 use mathlib.Core.Path.{ap}
 use native.Mathlib.Omega.{arith}
 use Rattle.solutionset.specs.SolutionSet2.{get-all, few}
@@ -21,10 +21,4 @@ returns c =
     at-slot 2 nought _ (get-all (start .args .self)) (start .args .i) laid (start .pre)
 
 pub at-spec : {M : Type 1} → statement M
-at-spec =
-    tie.close
-    (tie.spec
-    (λ _ _. tt)
-    mul-result
-    array-read-result
-    returns)
+at-spec = tie.close (tie.spec (λ _ _. tt) mul-result array-read-result returns)

@@ -1,4 +1,4 @@
--- Each arm is given that the set is its constructor at the answers.
+-- Each arm is given that the set is its constructor at the solutions.
 use mathlib.Core.Path.{sym, ap}
 use borrow.Author.Needs.{needs}
 use Rattle.solutionset.specs.SolutionSet2.{duplicated}
@@ -15,12 +15,4 @@ returns-3 : tie.Need-returns-3
 returns-3 c = sym (ap duplicated (c .enum-told .given .1))
 
 pub duplicated-spec : {M : Type 1} → statement M
-duplicated-spec =
-    tie.close
-    (tie.spec
-    (λ c. search needs)
-    (λ c. search needs)
-    (λ c. search needs)
-    returns
-    returns-2
-    returns-3)
+duplicated-spec = tie.close (tie.spec (λ c. search needs) (λ c. search needs) (λ c. search needs) returns returns-2 returns-3)

@@ -1,4 +1,4 @@
--- Each arm is given that the set is its constructor at the answers.
+-- Each arm is given that the set is its constructor at the solutions.
 use mathlib.Core.Path.{sym, ap}
 use borrow.Author.Needs.{needs}
 use Rattle.solutionset.specs.SolutionSet2.{expect-two}
@@ -15,12 +15,4 @@ returns-3 : tie.Need-returns-3
 returns-3 c = sym (ap expect-two (c .before .self .given .1))
 
 pub expect-two-spec : {M : Type 1} → statement M
-expect-two-spec =
-    tie.close
-    (tie.spec
-    (λ c. search needs)
-    (λ c. search needs)
-    (λ c. search needs)
-    returns
-    returns-2
-    returns-3)
+expect-two-spec = tie.close (tie.spec (λ c. search needs) (λ c. search needs) (λ c. search needs) returns returns-2 returns-3)

@@ -20,11 +20,4 @@ returns-3 c =
     search (of-two from-vec nan 2)
 
 pub from-slots-spec : {M : Type 1} → statement M
-from-slots-spec =
-    tie.close
-    (tie.spec
-    (λ c. search needs)
-    (λ c. search needs)
-    returns
-    returns-2
-    returns-3)
+from-slots-spec = tie.close (tie.spec (λ c. search needs) (λ c. search needs) returns returns-2 returns-3)

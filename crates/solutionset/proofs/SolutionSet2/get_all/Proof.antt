@@ -1,4 +1,4 @@
--- Each arm is given that the set is its constructor at the answers.
+-- Each arm is given that the set is its constructor at the solutions.
 use mathlib.Core.Path.{sym, ap}
 use borrow.Author.Needs.{needs}
 use Rattle.solutionset.specs.SolutionSet2.{get-all, slots}
@@ -20,12 +20,4 @@ returns-3 : tie.Need-returns-3
 returns-3 c = sym (ap all (c .before .self2 .given .1))
 
 pub get-all-spec : {M : Type 1} → statement M
-get-all-spec =
-    tie.close
-    (tie.spec
-    (λ c. search needs)
-    (λ c. search needs)
-    (λ c. search needs)
-    returns
-    returns-2
-    returns-3)
+get-all-spec = tie.close (tie.spec (λ c. search needs) (λ c. search needs) (λ c. search needs) returns returns-2 returns-3)

@@ -1,10 +1,9 @@
 -- Each call gives an equation.
 use mathlib.Core.Path.{_≡_}
-use lib.Ieee.{Float}
-use Rattle.float.specs.Num.{_⊖_, _⊗_}
+use lib.Ieee.{Float, ofInt, ofBits}
+use Rattle.float.specs.Num.{_⊖_, _⊗_, as-f64}
 use Rattle.linear.specs.Vector.{_-ᵛ_}
 use Rattle.vector.specs.declared.Vector3.{Vector3}
-use Rattle.polynomial.specs.Const.{four}
 use Rattle.convolution.specs.Convolution.{vec-self-convolve-2, vec-self-convolve-3, vec-convolve-3}
 use Rattle.convolution.specs.declared.Cone.{Cone}
 use Rattle.convolution.specs.declared.Vector5.{Vector5}
@@ -20,17 +19,18 @@ met : (c1 c3 : Cone) {p-13-sq d rhs : Vector3} {u v : Vector5}
     → v ≡ vec-convolve-3 p-13-sq (c1 .r)
     → _≡_ {A = Vector5}
     (record {
-      a = u .a ⊖ four ⊗ v .a;
-      b = u .b ⊖ four ⊗ v .b;
-      c = u .c ⊖ four ⊗ v .c;
-      d = u .d ⊖ four ⊗ v .d;
-      e = u .e ⊖ four ⊗ v .e;
+      a = u .a ⊖ as-f64 4 ⊗ v .a;
+      b = u .b ⊖ as-f64 4 ⊗ v .b;
+      c = u .c ⊖ as-f64 4 ⊗ v .c;
+      d = u .d ⊖ as-f64 4 ⊗ v .d;
+      e = u .e ⊖ as-f64 4 ⊗ v .e;
     })
     (eqn-real c1 c3)
 unfolding eqn-real
 met c1 c3 e1 e2 e3 e4 e5 = cc
 
 returns : tie.Need-returns
+unfolding ofInt ofBits
 returns c = search met
 
 pub eqn-real-spec : {M : Type 1} → statement M

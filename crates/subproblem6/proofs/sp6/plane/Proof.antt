@@ -7,7 +7,7 @@ use Rattle.convolution.specs.Triangular.{solve-lower-triangular-system-2x2}
 use Rattle.ellipse.specs.Ellipse.{transpose-2}
 use Rattle.qr.specs.declared.QrFactors.{QrFactors}
 use Rattle.convolution.specs.declared.Vector2.{Vector2}
-use Rattle.polynomial.specs.declared.Vector4.{Vector4}
+use Rattle.qr.specs.declared.Vector4.{Vector4}
 use Rattle.subproblem6.specs.Subproblem6.{plane}
 use Rattle.subproblem6.specs.declared.Plane.{Plane}
 use Rattle.subproblem6.proofs.sp6.plane.Statement.{statement}

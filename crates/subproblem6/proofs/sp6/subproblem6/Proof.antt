@@ -5,7 +5,7 @@ use lib.Ieee.{Float}
 use borrow.Author.Needs.{needs}
 use Rattle.vector.specs.declared.Vector3.{Vector3}
 use Rattle.pairset.specs.declared.PairSet4.{PairSet4}
-use Rattle.polynomial.specs.declared.Vector4.{Vector4}
+use Rattle.qr.specs.declared.Vector4.{Vector4}
 use Rattle.subproblem6.specs.Subproblem6.{row, entry, plane, unit-points, thetas, at, subproblem6}
 use Rattle.subproblem6.specs.declared.Plane.{Plane}
 use Rattle.subproblem6.proofs.sp6.subproblem6.Statement.{statement}

@@ -12,9 +12,9 @@ use Rattle.block.specs.Block.{refusal, family, samples, arm, pose}
 use Rattle.block.proofs.Whole.{whole}
 use Rattle.solve.specs.Solve.{answers, solve}
 use Rattle.solve.specs.declared.Solved.{Solved}
-use Rattle.lines.specs.Lines.{solve-block, block-answers}
-use Rattle.lines.proofs.solve_block.Statement.{statement}
-use Rattle.lines.proofs.solve_block.Tie as tie
+use Rattle.solve_block.specs.SolveBlock.{solve-block, block-answers}
+use Rattle.solve_block.proofs.solve_block.Statement.{statement}
+use Rattle.solve_block.proofs.solve_block.Tie as tie
 
 module _ (bytes : List ℕ) {refused : ℕ} (e : refused ≡ refusal bytes) where
   whole-block : refused ≡ 0 → 512 ≤ length bytes

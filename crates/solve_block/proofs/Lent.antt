@@ -9,7 +9,7 @@ use Rattle.answers.specs.Written.{room, written, flagged}
 use Rattle.answers.proofs.Laws.{nothing}
 use Rattle.block.specs.Block.{refusal, family, samples, arm, pose}
 use Rattle.solve.specs.Solve.{answers, solve}
-use Rattle.lines.specs.Lines.{solve-block, block-answers}
+use Rattle.solve_block.specs.SolveBlock.{solve-block, block-answers}
 
 pub record Lent (bytes : List ℕ) (angles : List Float) (flags : List ℕ) : Type 0 where
   -- refusals 1 to 3 report zeros and leave both lists as they came

@@ -11,7 +11,7 @@ use Rattle.complex.specs.declared.Complex.{Complex}
 use Rattle.polynomial.specs.Const.{epsilon}
 use Rattle.polynomial.specs.Roots.{roots, real-parts}
 use Rattle.polynomial.specs.Quadratic.{solve-quadratic-roots}
-use Rattle.polynomial.specs.Cubic.{p1, p2, q1, q2, three-roots, one-root, solve-cubic-roots}
+use Rattle.polynomial.specs.Cubic.{p1-of, p2-of, q1-of, q2-of, three-roots, one-root, solve-cubic-roots}
 use Rattle.quartic.specs.Quartic.{four-roots, formula, solve-quartic-roots}
 use Rattle.polynomial.specs.declared.Quadratic.{Quadratic}
 use Rattle.polynomial.specs.declared.Cubic.{Cubic}
@@ -43,11 +43,11 @@ few-one a b = record { at-most-four = omega arith }
 few-cubic : (p : Cubic) → Few (solve-cubic-roots p)
 unfolding solve-cubic-roots
 few-cubic p =
-    let s1 = p1 (p .a) (p .b) (p .c) in
-    let s2 = p2 (p .a) (p .b) (p .c) (p .d) in
+    let s1 = p1-of (p .a) (p .b) (p .c) in
+    let s2 = p2-of (p .a) (p .b) (p .c) (p .d) in
     either (lt (absᶜ (p .a)) epsilon) (few-quadratic (record { a = p .b; b = p .c; c = p .d }))
-    (either (lt epsilon (absᶜ (q1 s1 s2))) (few-three (p .a) (p .b) s1 (q1 s1 s2))
-    (either (lt epsilon (absᶜ (q2 s1 s2))) (few-three (p .a) (p .b) s1 (q2 s1 s2)) (few-one (p .a) (p .b))))
+    (either (lt epsilon (absᶜ (q1-of s1 s2))) (few-three (p .a) (p .b) s1 (q1-of s1 s2))
+    (either (lt epsilon (absᶜ (q2-of s1 s2))) (few-three (p .a) (p .b) s1 (q2-of s1 s2)) (few-one (p .a) (p .b))))
 
 few-formula : (a b c d e : Complex) → Few (formula a b c d e)
 unfolding formula four-roots
