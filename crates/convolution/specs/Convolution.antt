@@ -1,8 +1,8 @@
 -- subproblems/auxiliary.rs: the convolutions and cone_polynomials.
 use lib.Ieee.{neg}
 use Rattle.scalar.specs.Num.{_⊕_, _⊗_, _⊘_, one, two}
-use Rattle.vector.specs.Vector.{dot, cross, norm-squared}
-use Rattle.vector.specs.declared.Vector3.{Vector3}
+use Rattle.linear.specs.Vector.{dot, cross, norm-squared}
+use Rattle.linear.specs.declared.vector.Vector3.{Vector3}
 use Rattle.convolution.specs.declared.Vector2.{Vector2}
 use Rattle.convolution.specs.declared.Vector5.{Vector5}
 use Rattle.convolution.specs.declared.Cone.{Cone}

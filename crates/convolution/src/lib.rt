@@ -2,8 +2,8 @@
 // subproblems/auxiliary.rs: each function equals its definition in specs/ on every input.
 mod triangular;
 
+use linear::Vector3;
 pub use triangular::solve_lower_triangular_system_2x2;
-use vector::Vector3;
 ghost use mathlib.Core.Path.{_≡_};
 ghost use Rattle.convolution.specs.Convolution.{vec-self-convolve-2, vec-self-convolve-3, vec-convolve-3, cone-polynomials};
 
@@ -89,14 +89,14 @@ pub fn cone_polynomials(
 ) -> Cone
     ensures { λ r. ⌜ r ≡ cone-polynomials «p0_i» «k_i» «p_i» «p_i_s» k2 ⌝ }
 {
-    let ki_x_k2 = vector::cross(k_i, k2);
-    let ki_x_ki_x_k2 = vector::cross(k_i, ki_x_k2);
-    let norm_ki_x_k2_sq = vector::norm_squared(ki_x_k2);
-    let norm_ki_x_pi_sq = vector::norm_squared(vector::cross(k_i, p_i));
-    let alpha = vector::dot(p0_i, ki_x_ki_x_k2) / norm_ki_x_k2_sq;
-    let delta = vector::dot(k2, p_i_s);
-    let beta = vector::dot(p0_i, ki_x_k2) / norm_ki_x_k2_sq;
-    let p_const = norm_ki_x_pi_sq + vector::norm_squared(p_i_s) + 2.0 * alpha * delta;
+    let ki_x_k2 = linear::cross(k_i, k2);
+    let ki_x_ki_x_k2 = linear::cross(k_i, ki_x_k2);
+    let norm_ki_x_k2_sq = linear::norm_squared(ki_x_k2);
+    let norm_ki_x_pi_sq = linear::norm_squared(linear::cross(k_i, p_i));
+    let alpha = linear::dot(p0_i, ki_x_ki_x_k2) / norm_ki_x_k2_sq;
+    let delta = linear::dot(k2, p_i_s);
+    let beta = linear::dot(p0_i, ki_x_k2) / norm_ki_x_k2_sq;
+    let p_const = norm_ki_x_pi_sq + linear::norm_squared(p_i_s) + 2.0 * alpha * delta;
     let twice = 2.0 * beta;
     let square = twice * twice;
     Cone {

@@ -7,11 +7,11 @@ use borrow.Author.Tests.{eq-eqb}
 use lib.IntN.{pos, negsuc}
 use lib.Ieee.{binary64, add, sub, mul, div, neg, rem, lt, eq, isNan, ofInt, ofBits, toBits}
 use lib.ListN.{length}
-use Rattle.float.specs.Num.{whole, nought, two, pi, frac-pi-2}
+use Rattle.float.specs.Num.{int-as-f64, nought, two, pi, frac-pi-2}
 use Rattle.float.specs.Root.{sqrt}
 use Rattle.float.specs.Sine.{sin, cos}
 use Rattle.float.specs.Arctangent.{atan2}
-use Rattle.float.specs.Turn.{rem-euclid-tau, wrap-to-pi, inverse-wrap-to-pi}
+use Rattle.float.specs.Wrap.{rem-euclid-tau, wrap-to-pi, inverse-wrap-to-pi}
 use Rattle.complex.specs.Complex.{_+ᶜ_, _-ᶜ_, _*ᶜ_, _/ᶜ_, negᶜ, scaleᶜ, absᶜ, sqrtᶜ}
 use Rattle.convolution.specs.Convolution.{vec-self-convolve-2, vec-self-convolve-3, vec-convolve-3}
 use Rattle.convolution.specs.Triangular.{solve-lower-triangular-system-2x2}
@@ -41,7 +41,7 @@ unfolding solve-lower-triangular-system-2x2 sub mul div ofInt
 lower-triangular = refl
 
 quadratic-two-one :
-    roots (solve-quadratic-roots (quadratic (num 1) (whole (negsuc 2)) (num 2)))
+    roots (solve-quadratic-roots (quadratic (num 1) (int-as-f64 (negsuc 2)) (num 2)))
     ≡ record { re = num 2; im = neg nought } ∷ record { re = num 1; im = nought } ∷ []
 unfolding solve-quadratic-roots _+ᶜ_ _-ᶜ_ _*ᶜ_ _/ᶜ_ negᶜ scaleᶜ absᶜ sqrtᶜ sqrt sin cos atan2 add sub mul div neg rem lt eq isNan ofInt ofBits
 quadratic-two-one = refl

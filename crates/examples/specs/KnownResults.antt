@@ -6,10 +6,10 @@ use Prim.Native.Nat.{ℕ}
 use lib.IntN.{ℤ, pos, negsuc}
 use lib.Ieee.{Float, binary64, neg, toBits}
 use lib.ListN.{length}
-use Rattle.float.specs.Num.{whole, nought, two, pi, frac-pi-2}
+use Rattle.float.specs.Num.{as-f64, int-as-f64, nought, two, pi, frac-pi-2}
 use Rattle.float.specs.Root.{sqrt}
-use Rattle.float.specs.Turn.{wrap-to-pi, inverse-wrap-to-pi}
-use Rattle.vector.specs.declared.Vector3.{Vector3}
+use Rattle.float.specs.Wrap.{wrap-to-pi, inverse-wrap-to-pi}
+use Rattle.linear.specs.declared.vector.Vector3.{Vector3}
 use Rattle.complex.specs.declared.Complex.{Complex}
 use Rattle.convolution.specs.Convolution.{vec-self-convolve-2, vec-self-convolve-3, vec-convolve-3}
 use Rattle.convolution.specs.Triangular.{solve-lower-triangular-system-2x2}
@@ -28,7 +28,7 @@ use Rattle.refusals.specs.Judge.{all-finite, judge}
 
 -- ---- short names for the numbers of the table
 abbrev pub num : ℕ → Float
-num k = whole (pos k)
+num k = as-f64 k
 
 abbrev pub vector-2 : ℕ → ℕ → Vector2
 vector-2 a b = record { x = num a; y = num b }
@@ -80,7 +80,7 @@ pub record KnownResults : Type 0 where
   pub lower-triangular : solve-lower-triangular-system-2x2 (matrix-2 2 0 1 4) (vector-2 6 11) ≡ vector-2 3 2
   -- "Quadratic 1, -3, 2: roots 2, 1": these are the real parts; the imaginary parts come out as -0.0 and 0.0
   pub quadratic-two-one :
-      roots (solve-quadratic-roots (quadratic (num 1) (whole (negsuc 2)) (num 2)))
+      roots (solve-quadratic-roots (quadratic (num 1) (int-as-f64 (negsuc 2)) (num 2)))
       ≡ record { re = num 2; im = neg nought } ∷ record { re = num 1; im = nought } ∷ []
   -- "0, 0, 5: none."
   pub quadratic-none : roots (solve-quadratic-roots (quadratic nought nought (num 5))) ≡ []

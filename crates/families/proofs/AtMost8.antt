@@ -3,7 +3,7 @@ use Prim.Native.Nat.{_≤_}
 use lib.Ieee.{Float}
 use lib.ListN.{length}
 use Rattle.linear.specs.Matrix.{Matrix}
-use Rattle.vector.specs.declared.Vector3.{Vector3}
+use Rattle.linear.specs.declared.vector.Vector3.{Vector3}
 use Rattle.kinematics.specs.declared.Kinematics.{Kinematics}
 use Rattle.families.specs.SphericalTwoParallel.{spherical-two-parallel}
 use Rattle.families.specs.SphericalTwoIntersecting.{spherical-two-intersecting}

@@ -4,10 +4,10 @@ use mathlib.Core.Bool.{Bool, _||_}
 use mathlib.Core.List.{List, [], _∷_, flatMap}
 use lib.Ieee.{Float}
 use Rattle.float.specs.Num.{_⊖_}
-use Rattle.float.specs.Turn.{wrap-to-pi}
+use Rattle.float.specs.Wrap.{wrap-to-pi}
 use Rattle.linear.specs.Matrix.{Matrix, product, apply, transpose, rot}
 use Rattle.linear.specs.Vector.{norm, _+ᵛ_, negᵛ}
-use Rattle.vector.specs.declared.Vector3.{Vector3}
+use Rattle.linear.specs.declared.vector.Vector3.{Vector3}
 use Rattle.solutionset.specs.SolutionSet2.{get-all}
 use Rattle.subproblems.specs.Subproblem1.{subproblem1-within}
 use Rattle.subproblems.specs.Subproblem3.{subproblem3}

@@ -10,7 +10,7 @@ use subproblems::Solved1;
 use subproblems::Solved2;
 ghost use mathlib.Core.Path.{_≡_};
 ghost use Rattle.float.specs.Num.{_⊖_};
-ghost use Rattle.float.specs.Turn.{wrap-to-pi};
+ghost use Rattle.float.specs.Wrap.{wrap-to-pi};
 ghost use Rattle.linear.specs.Matrix.{apply};
 ghost use Rattle.subproblems.specs.Subproblem1.{subproblem1-within};
 ghost use Rattle.answers.specs.Written.{Wrote};

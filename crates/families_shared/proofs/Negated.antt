@@ -7,7 +7,7 @@ use lib.Ieee.{Float, nan, inf, fin, Format, binary64, prec, low, emax, up, down,
 use Rattle.float.specs.Num.{_⊕_, _⊗_, _⊘_}
 use Rattle.float.specs.Root.{sqrt}
 use Rattle.linear.specs.Vector.{dot, norm, normalize, negᵛ, overᵛ}
-use Rattle.vector.specs.declared.Vector3.{Vector3}
+use Rattle.linear.specs.declared.vector.Vector3.{Vector3}
 
 unlike-left : (s t : Bool) → unlike (not s) t ≡ not (unlike s t)
 unlike-left true true = refl

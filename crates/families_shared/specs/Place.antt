@@ -1,7 +1,7 @@
 -- p_16 of families 3 to 5. (Families 1 and 2 subtract in another order; family 6 has the same in search_error: specs/Error.antt.)
 use Rattle.linear.specs.Matrix.{Matrix, apply}
 use Rattle.linear.specs.Vector.{_-ᵛ_}
-use Rattle.vector.specs.declared.Vector3.{Vector3}
+use Rattle.linear.specs.declared.vector.Vector3.{Vector3}
 use Rattle.kinematics.specs.declared.Kinematics.{Kinematics}
 
 -- p_0t - kin.p.column(0) - r_06 * kin.p.column(6)

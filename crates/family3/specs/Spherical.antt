@@ -5,7 +5,7 @@ use mathlib.Core.List.{List, flatMap}
 use lib.Ieee.{Float}
 use Rattle.linear.specs.Matrix.{Matrix}
 use Rattle.linear.specs.Vector.{negᵛ}
-use Rattle.vector.specs.declared.Vector3.{Vector3}
+use Rattle.linear.specs.declared.vector.Vector3.{Vector3}
 use Rattle.tripleset.specs.TripleSet4.{get-all}
 use Rattle.tripleset.specs.declared.Triple.{Triple}
 use Rattle.tripleset.specs.declared.TripleSet4.{TripleSet4}

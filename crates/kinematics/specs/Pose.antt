@@ -3,20 +3,20 @@ use Prim.Native.Nat.{ℕ, _+_}
 use mathlib.Core.List.{List}
 use lib.Ieee.{Float, nan}
 use lib.ListN.{getD}
-use Rattle.linear.specs.Matrix.{Matrix, row, part, three, product, apply, identity, rot}
+use Rattle.linear.specs.Matrix.{Matrix, row, part, array3, product, apply, identity, rot}
 use Rattle.linear.specs.Vector.{_+ᵛ_}
-use Rattle.vector.specs.declared.Vector3.{Vector3}
+use Rattle.linear.specs.declared.vector.Vector3.{Vector3}
 use Rattle.kinematics.specs.Kinematics.{vector-at}
 use Rattle.kinematics.specs.declared.Kinematics.{Kinematics}
 use Rattle.kinematics.specs.declared.Pose.{Pose}
 
 -- the three numbers from i on, as a row
 abbrev pub row-at : List Float → ℕ → List Float
-row-at l i = three (getD l i nan) (getD l (i + 1) nan) (getD l (i + 2) nan)
+row-at l i = array3 (getD l i nan) (getD l (i + 1) nan) (getD l (i + 2) nan)
 
 -- "A pose is the rotation by rows, then the place": of 12 numbers
 abbrev pub pose-rotation : List Float → Matrix
-pose-rotation l = three (row-at l 0) (row-at l 3) (row-at l 6)
+pose-rotation l = array3 (row-at l 0) (row-at l 3) (row-at l 6)
 
 abbrev pub pose-place : List Float → Vector3
 pose-place l = vector-at l 9
@@ -26,7 +26,7 @@ abbrev pub pose : Matrix → Vector3 → Pose
 pose r p = record { row1 = row r 0; row2 = row r 1; row3 = row r 2; place = p }
 
 abbrev pub rotation : Pose → Matrix
-rotation s = three (s .row1) (s .row2) (s .row3)
+rotation s = array3 (s .row1) (s .row2) (s .row3)
 
 -- one turn of the loop: "r *= rot(&self.h.column(i).into(), t); p += r * self.p.column(i + 1);"
 unfoldable pub joint : Pose → Vector3 → Float → Vector3 → Pose

@@ -6,7 +6,7 @@ use Rattle.float.specs.Num.{as-f64}
 use Rattle.float.specs.Root.{sqrt}
 use Rattle.linear.specs.Vector.{dot, cross, norm}
 use Rattle.linear.specs.Matrix.{apply, rodrigues}
-use Rattle.vector.specs.declared.Vector3.{Vector3}
+use Rattle.linear.specs.declared.vector.Vector3.{Vector3}
 
 abbrev vector : ℕ → ℕ → ℕ → Vector3
 vector x y z = record { x = as-f64 x; y = as-f64 y; z = as-f64 z }

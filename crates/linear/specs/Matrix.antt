@@ -6,7 +6,7 @@ use lib.ListN.{getD}
 use Rattle.float.specs.Num.{_⊕_, _⊖_, _⊗_, nought, one}
 use Rattle.float.specs.Sine.{sin, cos}
 use Rattle.linear.specs.Vector.{normalize}
-use Rattle.vector.specs.declared.Vector3.{Vector3}
+use Rattle.linear.specs.declared.vector.Vector3.{Vector3}
 
 infixl 6 _+ᵐ_
 abbrev pub Matrix : Type 0
@@ -19,18 +19,18 @@ row m i = getD m i []
 abbrev pub part : List Float → ℕ → Float
 part a j = getD a j nan
 
-abbrev pub three : {A : Type 0} → A → A → A → List A
-three a b c = a ∷ b ∷ c ∷ []
+abbrev pub array3 : {A : Type 0} → A → A → A → List A
+array3 a b c = a ∷ b ∷ c ∷ []
 
 -- "a matrix product's entry is a dot product": of a row and the column j of b
 abbrev pub entry : List Float → Matrix → ℕ → Float
 entry a b j = part a 0 ⊗ part (row b 0) j ⊕ part a 1 ⊗ part (row b 1) j ⊕ part a 2 ⊗ part (row b 2) j
 
 abbrev pub row-product : List Float → Matrix → List Float
-row-product a b = three (entry a b 0) (entry a b 1) (entry a b 2)
+row-product a b = array3 (entry a b 0) (entry a b 1) (entry a b 2)
 
 unfoldable pub product : Matrix → Matrix → Matrix
-product a b = three (row-product (row a 0) b) (row-product (row a 1) b) (row-product (row a 2) b)
+product a b = array3 (row-product (row a 0) b) (row-product (row a 1) b) (row-product (row a 2) b)
 
 -- a matrix times a vector
 abbrev pub row-dot : List Float → Vector3 → Float
@@ -41,39 +41,39 @@ apply a v = record { x = row-dot (row a 0) v; y = row-dot (row a 1) v; z = row-d
 
 -- the row v times a matrix
 unfoldable pub row-apply : Vector3 → Matrix → Vector3
-row-apply v a = let r = three (v .x) (v .y) (v .z) in record { x = entry r a 0; y = entry r a 1; z = entry r a 2 }
+row-apply v a = let r = array3 (v .x) (v .y) (v .z) in record { x = entry r a 0; y = entry r a 1; z = entry r a 2 }
 
 abbrev pub column : Matrix → ℕ → List Float
-column a j = three (part (row a 0) j) (part (row a 1) j) (part (row a 2) j)
+column a j = array3 (part (row a 0) j) (part (row a 1) j) (part (row a 2) j)
 
 unfoldable pub transpose : Matrix → Matrix
-transpose a = three (column a 0) (column a 1) (column a 2)
+transpose a = array3 (column a 0) (column a 1) (column a 2)
 
 abbrev pub identity : Matrix
-identity = three (three one nought nought) (three nought one nought) (three nought nought one)
+identity = array3 (array3 one nought nought) (array3 nought one nought) (array3 nought nought one)
 
 -- "Matrix cross-product for a 3 x 3 vector" (subproblems/auxiliary.rs)
 abbrev pub hat : Vector3 → Matrix
-hat k = three (three nought (neg (k .z)) (k .y)) (three (k .z) nought (neg (k .x))) (three (neg (k .y)) (k .x) nought)
+hat k = array3 (array3 nought (neg (k .z)) (k .y)) (array3 (k .z) nought (neg (k .x))) (array3 (neg (k .y)) (k .x) nought)
 
 -- the column a times the row b
 abbrev pub outer : Vector3 → Vector3 → Matrix
 outer a b =
-    three (three (a .x ⊗ b .x) (a .x ⊗ b .y) (a .x ⊗ b .z)) (three (a .y ⊗ b .x) (a .y ⊗ b .y) (a .y ⊗ b .z))
-    (three (a .z ⊗ b .x) (a .z ⊗ b .y) (a .z ⊗ b .z))
+    array3 (array3 (a .x ⊗ b .x) (a .x ⊗ b .y) (a .x ⊗ b .z)) (array3 (a .y ⊗ b .x) (a .y ⊗ b .y) (a .y ⊗ b .z))
+    (array3 (a .z ⊗ b .x) (a .z ⊗ b .y) (a .z ⊗ b .z))
 
 -- the sum of two matrices, and a matrix times a number, entry by entry
 abbrev row-sum : List Float → List Float → List Float
-row-sum a b = three (part a 0 ⊕ part b 0) (part a 1 ⊕ part b 1) (part a 2 ⊕ part b 2)
+row-sum a b = array3 (part a 0 ⊕ part b 0) (part a 1 ⊕ part b 1) (part a 2 ⊕ part b 2)
 
 abbrev pub _+ᵐ_ : Matrix → Matrix → Matrix
-a +ᵐ b = three (row-sum (row a 0) (row b 0)) (row-sum (row a 1) (row b 1)) (row-sum (row a 2) (row b 2))
+a +ᵐ b = array3 (row-sum (row a 0) (row b 0)) (row-sum (row a 1) (row b 1)) (row-sum (row a 2) (row b 2))
 
 abbrev row-scale : List Float → Float → List Float
-row-scale a s = three (part a 0 ⊗ s) (part a 1 ⊗ s) (part a 2 ⊗ s)
+row-scale a s = array3 (part a 0 ⊗ s) (part a 1 ⊗ s) (part a 2 ⊗ s)
 
 abbrev pub scaleᵐ : Matrix → Float → Matrix
-scaleᵐ a s = three (row-scale (row a 0) s) (row-scale (row a 1) s) (row-scale (row a 2) s)
+scaleᵐ a s = array3 (row-scale (row a 0) s) (row-scale (row a 1) s) (row-scale (row a 2) s)
 
 -- "Creates a 3x3 rotation matrix about `k` by `theta`" (subproblems/auxiliary.rs), for a normalised axis, a sine and a cosine:
 -- Matrix3::identity() + hat(&k) * theta.sin() + hat(&k) * hat(&k) * (1.0 - theta.cos())

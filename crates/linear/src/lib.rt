@@ -1,6 +1,7 @@
-// Matrices of three dimensions and rotations, as document 01 fixes nalgebra's, and the operations on
-// vectors by name: each function equals its definition in specs/ on every input.
+// Vectors and matrices of three dimensions and rotations, as document 01 fixes nalgebra's: each
+// function equals its definition in specs/ on every input.
 mod matrix;
+mod vector;
 
 pub use matrix::apply;
 pub use matrix::hat;

@@ -1,7 +1,7 @@
 // Matrices, and the rotation about an axis.
 use crate::Matrix3;
 use crate::Vector3;
-use vector::normalize;
+use crate::normalize;
 ghost use mathlib.Core.Path.{_≡_};
 ghost use Rattle.linear.specs.Matrix.{row-product, row-dot, product, apply, row-apply, transpose, identity, hat, outer, rodrigues, rot-unit, rot};
 

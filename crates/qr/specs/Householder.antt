@@ -4,7 +4,7 @@ use mathlib.Core.List.{List, [], _∷_, map}
 use lib.Ieee.{Float, lt}
 use lib.ListN.{getD, drop}
 use Rattle.float.specs.Num.{_⊗_, _⊘_, nought, two}
-use Rattle.vector.specs.declared.Vector3.{Vector3}
+use Rattle.linear.specs.declared.vector.Vector3.{Vector3}
 use Rattle.qr.specs.Qr.{entries, dot, turned, v-of, is-zero, less, identity, row}
 use Rattle.qr.specs.declared.Vector4.{Vector4}
 use Rattle.qr.specs.declared.QrFactors.{QrFactors}

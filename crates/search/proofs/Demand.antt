@@ -5,7 +5,7 @@ use native.Mathlib.Omega.{arith}
 use lib.Ieee.{Float}
 use lib.ListN.{length}
 use Rattle.linear.specs.Matrix.{Matrix}
-use Rattle.vector.specs.declared.Vector3.{Vector3}
+use Rattle.linear.specs.declared.vector.Vector3.{Vector3}
 use Rattle.kinematics.specs.declared.Kinematics.{Kinematics}
 use Rattle.search_definition.specs.Search.{search-1d-bracketed}
 use Rattle.search_definition.specs.Demand.{Demand3}

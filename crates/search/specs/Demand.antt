@@ -4,7 +4,7 @@ use mathlib.Core.List.{List}
 use Prim.Native.Nat.{ℕ, _+_, _*_, _≤_}
 use lib.Ieee.{Float}
 use Rattle.linear.specs.Matrix.{Matrix}
-use Rattle.vector.specs.declared.Vector3.{Vector3}
+use Rattle.linear.specs.declared.vector.Vector3.{Vector3}
 use Rattle.kinematics.specs.declared.Kinematics.{Kinematics}
 use Rattle.search_definition.specs.Found.{Out}
 use Rattle.search_definition.specs.Search.{search-1d-bracketed}

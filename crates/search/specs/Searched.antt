@@ -8,7 +8,7 @@ use lib.IntN.{pos}
 use lib.ListN.{length, getD, drop}
 use lib.Seq.{sets}
 use lib.Ieee.{Float, nan, neg}
-use Rattle.float.specs.Num.{_⊕_, _⊖_, _⊗_, _⊘_, whole, pi}
+use Rattle.float.specs.Num.{_⊕_, _⊖_, _⊗_, _⊘_, as-f64, pi}
 use Rattle.search_definition.specs.Found.{Out, nothing, _then_}
 use Rattle.search_definition.specs.Dip.{Point}
 use Rattle.search_definition.specs.Search.{angle, of-component, search-1d-bracketed}
@@ -17,7 +17,7 @@ use Rattle.search_dip.specs.declared.pairs.Found as Declared
 
 -- left + k * delta, written out
 abbrev pub spaced : ℕ → ℕ → Float
-spaced n k = neg pi ⊕ whole (pos k) ⊗ ((pi ⊖ neg pi) ⊘ whole (pos n))
+spaced n k = neg pi ⊕ as-f64 k ⊗ ((pi ⊖ neg pi) ⊘ as-f64 n)
 
 -- the first n numbers of a list are those of a rule
 abbrev pub Sampled : (ℕ → Float) → ℕ → List Float → Type 0

@@ -6,8 +6,8 @@ use lib.Ieee.{Float, nan}
 use lib.ListN.{getD, replicate}
 use lib.Seq.{sets}
 use Rattle.float.specs.Num.{infinity}
-use Rattle.linear.specs.Matrix.{Matrix, row, three, product, row-apply, rot}
-use Rattle.vector.specs.declared.Vector3.{Vector3}
+use Rattle.linear.specs.Matrix.{Matrix, row, array3, product, row-apply, rot}
+use Rattle.linear.specs.declared.vector.Vector3.{Vector3}
 use Rattle.pairset.specs.PairSet4.{get-all}
 use Rattle.pairset.specs.declared.Pair.{Pair}
 use Rattle.pairset.specs.declared.PairSet4.{PairSet4}
@@ -19,7 +19,7 @@ use Rattle.search_error.specs.Given.{given, turned, t64, t23, gap, answe
 
 module _ (kin : Kinematics) (r-06 : Matrix) (p-0t : Vector3) where
   -- a matrix that is taken apart into its rows and put together again
-  product-left : (a b : Matrix) → product (three (row a 0) (row a 1) (row a 2)) b ≡ product a b
+  product-left : (a b : Matrix) → product (array3 (row a 0) (row a 1) (row a 2)) b ≡ product a b
   unfolding product
   product-left a b = refl
 

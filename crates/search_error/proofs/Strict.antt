@@ -17,7 +17,7 @@ use Rattle.root.specs.Root.{sqrt}
 use Rattle.float.specs.Sine.{sin}
 use Rattle.linear.specs.Vector.{norm, _-ᵛ_}
 use Rattle.linear.specs.Matrix.{Matrix, part, row, apply, transpose, rodrigues, rot-unit, rot}
-use Rattle.vector.specs.declared.Vector3.{Vector3}
+use Rattle.linear.specs.declared.vector.Vector3.{Vector3}
 use Rattle.pairset.specs.PairSet4.{get-all, size}
 use Rattle.pairset.specs.declared.Pair.{Pair}
 use Rattle.kinematics.specs.declared.Kinematics.{Kinematics}

@@ -9,7 +9,7 @@ use lib.Seq.{sets}
 use Rattle.float.specs.Num.{_⊖_, _⊘_, nought, infinity}
 use Rattle.linear.specs.Vector.{dot, norm, _-ᵛ_, negᵛ}
 use Rattle.linear.specs.Matrix.{Matrix, product, apply, row-apply, transpose, rot}
-use Rattle.vector.specs.declared.Vector3.{Vector3}
+use Rattle.linear.specs.declared.vector.Vector3.{Vector3}
 use Rattle.pairset.specs.PairSet4.{get-all, size}
 use Rattle.pairset.specs.declared.Pair.{Pair}
 use Rattle.pairset.specs.declared.PairSet4.{PairSet4}

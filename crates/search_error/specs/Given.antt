@@ -6,8 +6,8 @@ use lib.ListN.{getD, replicate}
 use lib.Seq.{sets}
 use Rattle.float.specs.Num.{_⊖_, _⊘_, nought, infinity}
 use Rattle.linear.specs.Vector.{dot, norm, normalize, _-ᵛ_, negᵛ}
-use Rattle.linear.specs.Matrix.{Matrix, row, three, product, apply, row-apply, transpose, rot-unit}
-use Rattle.vector.specs.declared.Vector3.{Vector3}
+use Rattle.linear.specs.Matrix.{Matrix, row, array3, product, apply, row-apply, transpose, rot-unit}
+use Rattle.linear.specs.declared.vector.Vector3.{Vector3}
 use Rattle.pairset.specs.PairSet4.{get-all}
 use Rattle.pairset.specs.declared.Pair.{Pair}
 use Rattle.pairset.specs.declared.PairSet4.{PairSet4}
@@ -37,7 +37,7 @@ given kin r-06 p-0t =
 
 -- r_06
 abbrev pub rotation : Given → Matrix
-rotation g = three (g .row1) (g .row2) (g .row3)
+rotation g = array3 (g .row1) (g .row2) (g .row3)
 
 -- what q1 gives to all answers: r_01^T r_06 by rows, the first of subproblem 6's vectors h, and r_01^T p_16 - p1
 unfoldable pub turned : Given → Float → Turned
@@ -54,7 +54,7 @@ turned g q1 =
 
 -- r_01^T r_06
 abbrev pub turned-rotation : Turned → Matrix
-turned-rotation t = three (t .row1) (t .row2) (t .row3)
+turned-rotation t = array3 (t .row1) (t .row2) (t .row3)
 
 unfoldable pub t64 : Given → Turned → PairSet4
 t64 g t =

@@ -9,7 +9,7 @@ use Rattle.float.specs.Arctangent.{atan2}
 use Rattle.float.specs.Root.{sqrt}
 use Rattle.linear.specs.Vector.{dot, norm, _+ᵛ_, _-ᵛ_, scaleᵛ}
 use Rattle.linear.specs.Matrix.{apply, outer}
-use Rattle.vector.specs.declared.Vector3.{Vector3}
+use Rattle.linear.specs.declared.vector.Vector3.{Vector3}
 use Rattle.tripleset.specs.declared.Triple.{Triple}
 use Rattle.tripleset.specs.declared.TripleSet4.{TripleSet4}
 use Rattle.convolution.specs.Convolution.{vec-self-convolve-2, vec-self-convolve-3, vec-convolve-3, cone-polynomials}

@@ -6,7 +6,7 @@ use native.Mathlib.Nat.{mul-comm}
 use lib.Ieee.{Float, nan, inf, fin, up, down, mul, unlike}
 use Rattle.float.specs.Num.{_⊗_}
 use Rattle.linear.specs.Vector.{dot}
-use Rattle.vector.specs.declared.Vector3.{Vector3}
+use Rattle.linear.specs.declared.vector.Vector3.{Vector3}
 
 unlike-comm : (s t : Bool) → unlike s t ≡ unlike t s
 unlike-comm true true = refl

@@ -6,7 +6,7 @@ use Rattle.float.specs.Num.{_⊖_, millionth}
 use Rattle.float.specs.Number.{abs}
 use Rattle.float.specs.Arctangent.{atan2}
 use Rattle.linear.specs.Vector.{dot, norm}
-use Rattle.vector.specs.declared.Vector3.{Vector3}
+use Rattle.linear.specs.declared.vector.Vector3.{Vector3}
 use Rattle.subproblems.specs.Columns.{columns}
 use Rattle.subproblems.specs.declared.Solved1.{Solved1}
 

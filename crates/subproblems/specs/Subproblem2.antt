@@ -6,7 +6,7 @@ use lib.Ieee.{Float, binary64, ofBits, lt}
 use Rattle.float.specs.Num.{_⊖_}
 use Rattle.float.specs.Number.{abs}
 use Rattle.linear.specs.Vector.{dot, norm, normalize}
-use Rattle.vector.specs.declared.Vector3.{Vector3}
+use Rattle.linear.specs.declared.vector.Vector3.{Vector3}
 use Rattle.solutionset.specs.SolutionSet2.{size, duplicated, expect-one, expect-two}
 use Rattle.solutionset.specs.declared.SolutionSet2.{SolutionSet2}
 use Rattle.pairset.specs.declared.PairSet2.{PairSet2}

@@ -8,7 +8,7 @@ use Rattle.float.specs.Arctangent.{atan2}
 use Rattle.float.specs.Root.{sqrt}
 use Rattle.linear.specs.Vector.{dot, norm-squared, _-ᵛ_, scaleᵛ, overᵛ}
 use Rattle.linear.specs.Matrix.{apply, outer}
-use Rattle.vector.specs.declared.Vector3.{Vector3}
+use Rattle.linear.specs.declared.vector.Vector3.{Vector3}
 use Rattle.solutionset.specs.declared.SolutionSet2.the-variants.{One}
 use Rattle.subproblems.specs.Columns.{columns}
 use Rattle.subproblems.specs.Subproblem4.{either-side}

@@ -5,7 +5,7 @@ use Rattle.float.specs.Num.{_⊕_, _⊖_, _⊗_, _⊘_, nought, one, two}
 use Rattle.float.specs.Root.{sqrt}
 use Rattle.float.specs.declared.sine.SinCos.{SinCos}
 use Rattle.linear.specs.Vector.{dot, cross, norm-squared, _-ᵛ_, negᵛ, scaleᵛ}
-use Rattle.vector.specs.declared.Vector3.{Vector3}
+use Rattle.linear.specs.declared.vector.Vector3.{Vector3}
 use Rattle.solutionset.specs.declared.SinCosSet2.{SinCosSet2}
 use Rattle.solutionset.specs.declared.SinCosSet2.the-variants.{One, Two}
 use Rattle.subproblems.specs.Columns.{columns}

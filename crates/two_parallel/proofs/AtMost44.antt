@@ -7,7 +7,7 @@ use lib.Dec.{leb}
 use lib.Ieee.{Float}
 use lib.ListN.{length, length-map}
 use Rattle.linear.specs.Matrix.{Matrix}
-use Rattle.vector.specs.declared.Vector3.{Vector3}
+use Rattle.linear.specs.declared.vector.Vector3.{Vector3}
 use Rattle.kinematics.specs.declared.Kinematics.{Kinematics}
 use Rattle.search_definition.specs.Found.{pairs, pair-of}
 use Rattle.search.specs.Demand.{two-parallel-search}

@@ -11,7 +11,7 @@ use lib.Ieee.{Float, nan}
 use lib.ListN.{length, take, drop, getD, length-map, List·getD-map}
 use lib.Seq.{sets, sets-eq, take-at, getD-take, length-take-le}
 use Rattle.linear.specs.Matrix.{Matrix}
-use Rattle.vector.specs.declared.Vector3.{Vector3}
+use Rattle.linear.specs.declared.vector.Vector3.{Vector3}
 use Rattle.pairset.specs.PairSet4.{size}
 use Rattle.pairset.specs.declared.PairSet4.{PairSet4}
 use Rattle.kinematics.specs.declared.Kinematics.{Kinematics}

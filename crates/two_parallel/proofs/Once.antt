@@ -2,7 +2,7 @@
 use mathlib.Core.Path.{_≡_, refl, _∙_, ap}
 use lib.Ieee.{Float}
 use Rattle.linear.specs.Matrix.{Matrix, product, transpose, rot}
-use Rattle.vector.specs.declared.Vector3.{Vector3}
+use Rattle.linear.specs.declared.vector.Vector3.{Vector3}
 use Rattle.pairset.specs.PairSet4.{at}
 use Rattle.pairset.specs.declared.Pair as Angles
 use Rattle.pairset.specs.declared.PairSet4.{PairSet4}

@@ -6,10 +6,10 @@ use Prim.Native.Nat.{ℕ}
 use lib.Ieee.{Float}
 use lib.ListN.{length}
 use Rattle.float.specs.Num.{_⊖_}
-use Rattle.float.specs.Turn.{wrap-to-pi}
+use Rattle.float.specs.Wrap.{wrap-to-pi}
 use Rattle.linear.specs.Matrix.{Matrix, product, apply, transpose, rot}
 use Rattle.linear.specs.Vector.{_-ᵛ_, negᵛ}
-use Rattle.vector.specs.declared.Vector3.{Vector3}
+use Rattle.linear.specs.declared.vector.Vector3.{Vector3}
 use Rattle.pairset.specs.PairSet4.{at}
 use Rattle.pairset.specs.declared.Pair as Angles
 use Rattle.subproblems.specs.Subproblem1.{subproblem1-within}

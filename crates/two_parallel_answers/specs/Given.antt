@@ -2,7 +2,7 @@
 use mathlib.Core.Bool.{_||_}
 use lib.Ieee.{Float}
 use Rattle.float.specs.Num.{_⊖_}
-use Rattle.float.specs.Turn.{wrap-to-pi}
+use Rattle.float.specs.Wrap.{wrap-to-pi}
 use Rattle.linear.specs.Matrix.{Matrix, product, apply, transpose, rot-unit}
 use Rattle.linear.specs.Vector.{_-ᵛ_}
 use Rattle.pairset.specs.PairSet4.{at}

@@ -12,7 +12,7 @@ ghost use mathlib.Core.List.{_∷_, [], map};
 ghost use Prim.Native.Nat.{_≤_};
 ghost use lib.ListN.{length};
 ghost use Rattle.float.specs.Num.{_⊖_};
-ghost use Rattle.float.specs.Turn.{wrap-to-pi};
+ghost use Rattle.float.specs.Wrap.{wrap-to-pi};
 ghost use Rattle.answers.specs.Written.{Wrote};
 ghost use Rattle.two_parallel_answers.specs.Given.{t23, q2, q5, answer, answer-at};
 ghost use Rattle.two_parallel_answers.specs.Pairs.{pair, first-pairs, Answered, AllAnswered};

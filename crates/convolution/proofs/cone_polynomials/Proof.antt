@@ -2,8 +2,8 @@
 use mathlib.Core.Path.{_≡_}
 use lib.Ieee.{Float, neg}
 use Rattle.scalar.specs.Num.{_⊕_, _⊗_, _⊘_, one, two}
-use Rattle.vector.specs.Vector.{dot, cross, norm-squared}
-use Rattle.vector.specs.declared.Vector3.{Vector3}
+use Rattle.linear.specs.Vector.{dot, cross, norm-squared}
+use Rattle.linear.specs.declared.vector.Vector3.{Vector3}
 use Rattle.convolution.specs.Convolution.{cone-polynomials}
 use Rattle.convolution.specs.declared.Cone.{Cone}
 use Rattle.convolution.proofs.cone_polynomials.Statement.{statement}

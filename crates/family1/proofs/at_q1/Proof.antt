@@ -8,7 +8,7 @@ use borrow.Author.Needs.{needs}
 use lib.Ieee.{Float}
 use Rattle.linear.specs.Matrix.{Matrix, apply, rot}
 use Rattle.linear.specs.Vector.{_+ᵛ_, negᵛ}
-use Rattle.vector.specs.declared.Vector3.{Vector3}
+use Rattle.linear.specs.declared.vector.Vector3.{Vector3}
 use Rattle.solutionset.specs.SolutionSet2.{get-all}
 use Rattle.subproblems.specs.declared.Solved2.{Solved2}
 use Rattle.kinematics.specs.declared.Kinematics.{Kinematics}

@@ -2,7 +2,7 @@
 use mathlib.Core.Path.{_≡_}
 use Rattle.linear.specs.Matrix.{Matrix, product, apply}
 use Rattle.linear.specs.Vector.{_-ᵛ_}
-use Rattle.vector.specs.declared.Vector3.{Vector3}
+use Rattle.linear.specs.declared.vector.Vector3.{Vector3}
 use Rattle.kinematics.specs.declared.Kinematics.{Kinematics}
 use Rattle.family5.proofs.d_inner.Statement.{statement}
 use Rattle.family5.proofs.d_inner.Tie as tie

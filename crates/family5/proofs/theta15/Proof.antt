@@ -5,7 +5,7 @@ use lib.Ieee.{Float}
 use Rattle.float.specs.Num.{nought}
 use Rattle.linear.specs.Matrix.{Matrix, apply}
 use Rattle.linear.specs.Vector.{dot, _+ᵛ_, negᵛ}
-use Rattle.vector.specs.declared.Vector3.{Vector3}
+use Rattle.linear.specs.declared.vector.Vector3.{Vector3}
 use Rattle.pairset.specs.declared.PairSet4.{PairSet4}
 use Rattle.subproblem6.specs.Subproblem6.{subproblem6}
 use Rattle.kinematics.specs.declared.Kinematics.{Kinematics}

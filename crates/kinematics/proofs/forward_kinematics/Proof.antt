@@ -4,7 +4,7 @@ use mathlib.Core.List.{List}
 use borrow.Author.Needs.{needs}
 use lib.Ieee.{Float}
 use Rattle.linear.specs.Matrix.{Matrix, part, identity}
-use Rattle.vector.specs.declared.Vector3.{Vector3}
+use Rattle.linear.specs.declared.vector.Vector3.{Vector3}
 use Rattle.kinematics.specs.Pose.{pose, joint, forward-kinematics}
 use Rattle.kinematics.specs.declared.Kinematics.{Kinematics}
 use Rattle.kinematics.specs.declared.Pose.{Pose}

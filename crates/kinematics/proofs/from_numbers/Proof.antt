@@ -6,7 +6,7 @@ use native.Mathlib.Omega.{arith}
 use borrow.Author.Needs.{needs}
 use lib.Ieee.{Float}
 use lib.ListN.{length}
-use Rattle.vector.specs.declared.Vector3.{Vector3}
+use Rattle.linear.specs.declared.vector.Vector3.{Vector3}
 use Rattle.kinematics.specs.Kinematics.{vector-at, from-numbers}
 use Rattle.kinematics.specs.declared.Kinematics.{Kinematics}
 use Rattle.kinematics.proofs.from_numbers.Statement.{statement}

@@ -4,7 +4,7 @@ use mathlib.Core.Bool.{Bool}
 use lib.Ieee.{Float, neg}
 use Rattle.float.specs.declared.sine.SinCos.{SinCos}
 use Rattle.linear.specs.Vector.{dot, cross}
-use Rattle.vector.specs.declared.Vector3.{Vector3}
+use Rattle.linear.specs.declared.vector.Vector3.{Vector3}
 use Rattle.subproblems_sc.specs.SinCosForms.{unit, subproblem1-sc}
 use Rattle.subproblems.specs.Subproblem1.{subproblem1-is-ls, tolerance}
 use Rattle.subproblems_sc.specs.declared.SolvedSinCos.{SolvedSinCos}

@@ -5,7 +5,7 @@ use lib.Ieee.{Float, neg, lt}
 use Rattle.float.specs.Num.{_⊕_, _⊖_, _⊗_, _⊘_, one, two}
 use Rattle.float.specs.Root.{sqrt}
 use Rattle.linear.specs.Vector.{dot, norm-squared, _-ᵛ_, scaleᵛ}
-use Rattle.vector.specs.declared.Vector3.{Vector3}
+use Rattle.linear.specs.declared.vector.Vector3.{Vector3}
 use Rattle.solutionset.specs.declared.SinCosSet2.the-variants.{One, Two}
 use Rattle.subproblems.specs.Columns.{columns}
 use Rattle.subproblems_sc.specs.SinCosForms.{sc, subproblem3-sc}

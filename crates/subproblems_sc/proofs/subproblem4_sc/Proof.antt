@@ -6,7 +6,7 @@ use Rattle.float.specs.Num.{_⊕_, _⊖_, _⊗_, _⊘_}
 use Rattle.float.specs.Root.{sqrt}
 use Rattle.float.specs.declared.sine.SinCos.{SinCos}
 use Rattle.linear.specs.Vector.{dot}
-use Rattle.vector.specs.declared.Vector3.{Vector3}
+use Rattle.linear.specs.declared.vector.Vector3.{Vector3}
 use Rattle.solutionset.specs.declared.SinCosSet2.the-variants.{One, Two}
 use Rattle.subproblems.specs.Columns.{columns}
 use Rattle.subproblems_sc.specs.SinCosForms.{sc, unit, subproblem4-sc}

@@ -9,7 +9,7 @@ use lib.ListN.{length, replicate, length-replicate}
 use lib.Seq.{length-sets}
 use Rattle.float.specs.Num.{nought}
 use Rattle.linear.specs.Matrix.{Matrix}
-use Rattle.vector.specs.declared.Vector3.{Vector3}
+use Rattle.linear.specs.declared.vector.Vector3.{Vector3}
 use Rattle.kinematics.specs.declared.Kinematics.{Kinematics}
 use Rattle.answers.specs.Written.{Wrote}
 use Rattle.answers.specs.declared.Answer.{Answer}

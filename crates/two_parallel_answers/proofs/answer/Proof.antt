@@ -3,7 +3,7 @@ use mathlib.Core.Path.{_≡_}
 use mathlib.Core.Bool.{Bool, _||_}
 use lib.Ieee.{Float}
 use Rattle.float.specs.Num.{_⊖_}
-use Rattle.float.specs.Turn.{wrap-to-pi}
+use Rattle.float.specs.Wrap.{wrap-to-pi}
 use Rattle.linear.specs.Matrix.{Matrix, product, transpose, rot-unit}
 use Rattle.pairset.specs.declared.Pair.{Pair}
 use Rattle.subproblems.specs.declared.Solved1.{Solved1}

@@ -3,7 +3,7 @@ use mathlib.Core.Path.{_≡_}
 use lib.Ieee.{Float}
 use Rattle.linear.specs.Matrix.{Matrix, rot-unit, rot}
 use Rattle.linear.specs.Vector.{normalize}
-use Rattle.vector.specs.declared.Vector3.{Vector3}
+use Rattle.linear.specs.declared.vector.Vector3.{Vector3}
 use Rattle.families_shared.proofs.turn.ahead.Statement.{statement}
 use Rattle.families_shared.proofs.turn.ahead.Tie as tie
 

@@ -2,7 +2,7 @@
 use mathlib.Core.Path.{_≡_}
 use Rattle.linear.specs.Matrix.{Matrix, apply}
 use Rattle.linear.specs.Vector.{_-ᵛ_}
-use Rattle.vector.specs.declared.Vector3.{Vector3}
+use Rattle.linear.specs.declared.vector.Vector3.{Vector3}
 use Rattle.kinematics.specs.declared.Kinematics.{Kinematics}
 use Rattle.families_shared.specs.Place.{p-16}
 use Rattle.families_shared.proofs.turn.p_16.Statement.{statement}

@@ -4,7 +4,7 @@ use mathlib.Core.List.{List}
 use lib.Ieee.{Float}
 use Rattle.linear.specs.Matrix.{Matrix, product, apply, rot}
 use Rattle.linear.specs.Vector.{_+ᵛ_}
-use Rattle.vector.specs.declared.Vector3.{Vector3}
+use Rattle.linear.specs.declared.vector.Vector3.{Vector3}
 use Rattle.kinematics.specs.Pose.{rotation, pose, joint}
 use Rattle.kinematics.specs.declared.Pose.{Pose}
 use Rattle.kinematics.proofs.Pose.joint.Statement.{statement}

@@ -6,13 +6,13 @@ use lib.Ieee.{Float, binary64, mul, neg, fits, ofBits}
 use lib.Ieee.Fits.{add-fits, sub-fits, mul-fits}
 use lib.Ieee.Scale.{finite}
 use Rattle.float.specs.Num.{_⊕_, _⊖_, _⊗_, nought, one}
-use Rattle.linear.specs.Matrix.{three, product, rodrigues}
+use Rattle.linear.specs.Matrix.{array3, product, rodrigues}
 use Rattle.linear.proofs.Zeros.{Near, same, Like, Null, add-left, add-right, near-add, near-mul, onto, takes-nought, takes-one, null-left, null-right, finite-neg, before, after, twice, entry}
 use Rattle.linear.proofs.matrix.rodrigues.Statement.{statement}
 use Rattle.linear.proofs.matrix.rodrigues.Tie as tie
 
-threes : {A : Type 0} {a b c a' b' c' : A} → a ≡ a' → b ≡ b' → c ≡ c' → three a b c ≡ three a' b' c'
-threes p q r = λ i. three (p i) (q i) (r i)
+threes : {A : Type 0} {a b c a' b' c' : A} → a ≡ a' → b ≡ b' → c ≡ c' → array3 a b c ≡ array3 a' b' c'
+threes p q r = λ i. array3 (p i) (q i) (r i)
 
 m-fits : (a b : Float) → T (fits binary64 (a ⊗ b))
 m-fits a b = mul-fits binary64 a b

@@ -4,7 +4,7 @@ use lib.Ieee.{Float}
 use Rattle.float.specs.Sine.{sin-cos}
 use Rattle.float.specs.declared.sine.SinCos.{SinCos}
 use Rattle.linear.specs.Matrix.{Matrix, rodrigues, rot-unit}
-use Rattle.vector.specs.declared.Vector3.{Vector3}
+use Rattle.linear.specs.declared.vector.Vector3.{Vector3}
 use Rattle.linear.proofs.matrix.rot_unit.Statement.{statement}
 use Rattle.linear.proofs.matrix.rot_unit.Tie as tie
 

@@ -1,6 +1,6 @@
 -- The calls, one equation each.
 use mathlib.Core.Path.{_≡_}
-use Rattle.vector.specs.declared.Vector3.{Vector3}
+use Rattle.linear.specs.declared.vector.Vector3.{Vector3}
 use Rattle.qr.specs.Qr.{qr}
 use Rattle.qr.specs.Householder.{lower, reflection-4, reflection-3, reflect-4, reflect-3, columns, factors}
 use Rattle.qr.specs.declared.Vector4.{Vector4}

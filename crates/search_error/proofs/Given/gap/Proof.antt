@@ -3,7 +3,7 @@ use mathlib.Core.Path.{_≡_}
 use lib.Ieee.{Float}
 use Rattle.linear.specs.Vector.{norm, _-ᵛ_}
 use Rattle.linear.specs.Matrix.{Matrix, product, apply, rot-unit}
-use Rattle.vector.specs.declared.Vector3.{Vector3}
+use Rattle.linear.specs.declared.vector.Vector3.{Vector3}
 use Rattle.search_error.specs.Given.{t23, gap}
 use Rattle.search_error.specs.declared.Given.{Given}
 use Rattle.search_error.specs.declared.Turned.{Turned}

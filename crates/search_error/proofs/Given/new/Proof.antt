@@ -4,7 +4,7 @@ use borrow.Author.Needs.{needs}
 use lib.Ieee.{Float}
 use Rattle.linear.specs.Vector.{norm, normalize, negᵛ}
 use Rattle.linear.specs.Matrix.{Matrix, row}
-use Rattle.vector.specs.declared.Vector3.{Vector3}
+use Rattle.linear.specs.declared.vector.Vector3.{Vector3}
 use Rattle.kinematics.specs.declared.Kinematics.{Kinematics}
 use Rattle.search_error.specs.Error.{max-positive, p-16}
 use Rattle.search_error.specs.Given.{given}

@@ -2,7 +2,7 @@
 use mathlib.Core.Path.{_≡_}
 use lib.Ieee.{Float}
 use Rattle.linear.specs.Matrix.{Matrix, apply}
-use Rattle.vector.specs.declared.Vector3.{Vector3}
+use Rattle.linear.specs.declared.vector.Vector3.{Vector3}
 use Rattle.subproblems.specs.Subproblem1.{subproblem1-theta}
 use Rattle.search_error.specs.Given.{t23}
 use Rattle.search_error.specs.declared.Given.{Given}

@@ -4,7 +4,7 @@ use borrow.Author.Needs.{needs}
 use lib.Ieee.{Float}
 use Rattle.linear.specs.Vector.{_-ᵛ_}
 use Rattle.linear.specs.Matrix.{Matrix, row, product, apply, row-apply, transpose, rot-unit}
-use Rattle.vector.specs.declared.Vector3.{Vector3}
+use Rattle.linear.specs.declared.vector.Vector3.{Vector3}
 use Rattle.search_error.specs.Given.{rotation, turned}
 use Rattle.search_error.specs.declared.Given.{Given}
 use Rattle.search_error.specs.declared.Turned.{Turned}

@@ -6,7 +6,7 @@ use lib.Ieee.{Float, lt}
 use borrow.Author.Needs.{needs}
 use Rattle.float.specs.Num.{nought}
 use Rattle.linear.specs.Vector.{scaleᵛ}
-use Rattle.vector.specs.declared.Vector3.{Vector3}
+use Rattle.linear.specs.declared.vector.Vector3.{Vector3}
 use Rattle.tripleset.specs.TripleSet4.{slots}
 use Rattle.tripleset.specs.declared.TripleSlots4.{TripleSlots4}
 use Rattle.subproblem5.specs.Port.{sq, points, of-points, at-root}

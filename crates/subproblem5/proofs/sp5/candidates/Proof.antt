@@ -8,7 +8,7 @@ use lib.Ieee.{Float, nan}
 use lib.ListN.{length, getD, set, take, length-take, length-append}
 use lib.Seq.{take-suc, take-all, getD-take}
 use borrow.Author.Needs.{needs}
-use Rattle.vector.specs.declared.Vector3.{Vector3}
+use Rattle.linear.specs.declared.vector.Vector3.{Vector3}
 use Rattle.pairset.specs.Slots.{padded}
 use Rattle.tripleset.specs.TripleSet4.{none, slots}
 use Rattle.tripleset.specs.declared.Triple.{Triple}

@@ -3,7 +3,7 @@ use mathlib.Core.Path.{_≡_}
 use lib.Ieee.{Float, ofInt, ofBits}
 use Rattle.float.specs.Num.{_⊖_, _⊗_, as-f64}
 use Rattle.linear.specs.Vector.{_-ᵛ_}
-use Rattle.vector.specs.declared.Vector3.{Vector3}
+use Rattle.linear.specs.declared.vector.Vector3.{Vector3}
 use Rattle.convolution.specs.Convolution.{vec-self-convolve-2, vec-self-convolve-3, vec-convolve-3}
 use Rattle.convolution.specs.declared.Cone.{Cone}
 use Rattle.convolution.specs.declared.Vector5.{Vector5}

@@ -2,7 +2,7 @@
 use mathlib.Core.Path.{_≡_}
 use lib.Ieee.{Float}
 use Rattle.linear.specs.Vector.{norm-squared, _+ᵛ_, _-ᵛ_}
-use Rattle.vector.specs.declared.Vector3.{Vector3}
+use Rattle.linear.specs.declared.vector.Vector3.{Vector3}
 use Rattle.convolution.specs.declared.Vector2.{Vector2}
 use Rattle.subproblem5.specs.Port.{point}
 use Rattle.subproblem5.specs.Subproblem5.{_+²_, _·²_, over², times}

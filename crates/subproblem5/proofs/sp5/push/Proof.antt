@@ -9,7 +9,7 @@ use Rattle.float.specs.Num.{_⊖_}
 use Rattle.float.specs.Number.{abs}
 use Rattle.float.specs.Root.{sqrt}
 use Rattle.norms.specs.Norms.{tolerance}
-use Rattle.vector.specs.declared.Vector3.{Vector3}
+use Rattle.linear.specs.declared.vector.Vector3.{Vector3}
 use Rattle.tripleset.specs.declared.Triple.{Triple}
 use Rattle.tripleset.specs.declared.TripleSlots4.{TripleSlots4}
 use Rattle.subproblem5.specs.Port.{angles, agree, pushed}

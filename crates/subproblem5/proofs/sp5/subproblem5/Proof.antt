@@ -7,7 +7,7 @@ use lib.ListN.{length, take, replicate}
 use lib.Seq.{take-append-seam}
 use borrow.Author.Needs.{needs}
 use Rattle.float.specs.Num.{nought}
-use Rattle.vector.specs.declared.Vector3.{Vector3}
+use Rattle.linear.specs.declared.vector.Vector3.{Vector3}
 use Rattle.solutionset.specs.SolutionSet4.{slots}
 use Rattle.pairset.specs.Slots.{padded}
 use Rattle.tripleset.specs.TripleSet4.{none}

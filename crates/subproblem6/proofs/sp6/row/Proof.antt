@@ -2,7 +2,7 @@
 use mathlib.Core.Path.{_≡_}
 use lib.Ieee.{Float}
 use Rattle.linear.specs.Vector.{dot}
-use Rattle.vector.specs.declared.Vector3.{Vector3}
+use Rattle.linear.specs.declared.vector.Vector3.{Vector3}
 use Rattle.qr.specs.declared.Vector4.{Vector4}
 use Rattle.subproblems.specs.Columns.{columns}
 use Rattle.subproblem6.specs.Subproblem6.{row}

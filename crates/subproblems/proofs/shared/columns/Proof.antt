@@ -1,7 +1,7 @@
 -- Three calls.
 use mathlib.Core.Path.{_≡_}
 use Rattle.linear.specs.Vector.{cross, negᵛ}
-use Rattle.vector.specs.declared.Vector3.{Vector3}
+use Rattle.linear.specs.declared.vector.Vector3.{Vector3}
 use Rattle.subproblems.specs.Columns.{columns}
 use Rattle.subproblems.specs.declared.Columns.{Columns}
 use Rattle.subproblems.proofs.shared.columns.Statement.{statement}

@@ -6,7 +6,7 @@ use Rattle.float.specs.Num.{_⊖_}
 use Rattle.float.specs.Number.{abs}
 use Rattle.float.specs.Root.{sqrt}
 use Rattle.linear.specs.Vector.{dot, norm, norm-squared}
-use Rattle.vector.specs.declared.Vector3.{Vector3}
+use Rattle.linear.specs.declared.vector.Vector3.{Vector3}
 use Rattle.subproblems.specs.Subproblem1.{subproblem1-is-ls}
 use Rattle.subproblems.proofs.sp1.subproblem1_is_ls.Statement.{statement}
 use Rattle.subproblems.proofs.sp1.subproblem1_is_ls.Tie as tie

@@ -3,7 +3,7 @@ use mathlib.Core.Path.{_≡_}
 use lib.Ieee.{Float}
 use Rattle.float.specs.Arctangent.{atan2}
 use Rattle.linear.specs.Vector.{dot}
-use Rattle.vector.specs.declared.Vector3.{Vector3}
+use Rattle.linear.specs.declared.vector.Vector3.{Vector3}
 use Rattle.subproblems.specs.Columns.{columns}
 use Rattle.subproblems.specs.Subproblem1.{subproblem1-theta}
 use Rattle.subproblems.specs.declared.Columns.{Columns}

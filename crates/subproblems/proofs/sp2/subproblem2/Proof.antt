@@ -7,7 +7,7 @@ use lib.Ieee.{Float, lt}
 use Rattle.float.specs.Num.{_⊕_, _⊖_, _⊗_}
 use Rattle.float.specs.Number.{abs}
 use Rattle.linear.specs.Vector.{dot, norm, normalize, overᵛ}
-use Rattle.vector.specs.declared.Vector3.{Vector3}
+use Rattle.linear.specs.declared.vector.Vector3.{Vector3}
 use Rattle.solutionset.specs.SolutionSet2.{size}
 use Rattle.pairset.specs.declared.PairSet2.{PairSet2}
 use Rattle.solutionset.specs.declared.SolutionSet2.the-variants.{One}

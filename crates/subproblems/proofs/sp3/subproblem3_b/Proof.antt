@@ -4,7 +4,7 @@ use lib.Ieee.{Float}
 use Rattle.float.specs.Num.{_⊖_, _⊗_}
 use Rattle.linear.specs.Vector.{norm-squared, _-ᵛ_}
 use Rattle.linear.specs.Matrix.{Matrix, apply, outer}
-use Rattle.vector.specs.declared.Vector3.{Vector3}
+use Rattle.linear.specs.declared.vector.Vector3.{Vector3}
 use Rattle.subproblems.specs.Subproblem3.{subproblem3-b}
 use Rattle.subproblems.proofs.sp3.subproblem3_b.Statement.{statement}
 use Rattle.subproblems.proofs.sp3.subproblem3_b.Tie as tie

@@ -1,7 +1,7 @@
 // Vectors of three dimensions, as document 01 fixes nalgebra's: each function equals its definition in
 // specs/ on every input.
 ghost use mathlib.Core.Path.{_≡_};
-ghost use Rattle.vector.specs.Vector.{dot, cross, norm, norm-squared, normalize, _+ᵛ_, _-ᵛ_, negᵛ, scaleᵛ, overᵛ, column-sum};
+ghost use Rattle.linear.specs.Vector.{dot, cross, norm, norm-squared, normalize, _+ᵛ_, _-ᵛ_, negᵛ, scaleᵛ, overᵛ, column-sum};
 
 pub struct Vector3 {
     pub x: f64,
