@@ -14,7 +14,7 @@ ghost use Rattle.answers.specs.Written.{Wrote};
 ghost use Rattle.forward.specs.Forward.{forward-pose};
 ghost use Rattle.calls_c.specs.Numbered.{family-answers};
 
-// Of polynomial, quartic, qr and ellipse.
+// Of polynomial, qr and ellipse.
 #[no_mangle]
 pub extern "C" fn bench_polynomial(id: u64, args: &[f64; 40], out: &mut [u64; 23]) {
     polynomials::polynomial(id, args, out);

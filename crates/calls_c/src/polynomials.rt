@@ -1,4 +1,4 @@
-// The functions of polynomial, quartic, qr and ellipse.
+// The functions of polynomial, qr and ellipse.
 use crate::shapes::put;
 use crate::shapes::put_pairs;
 use crate::shapes::put_two;
@@ -100,7 +100,7 @@ fn cone_polynomials(args: &[f64; 40], out: &mut [u64; 23]) {
 }
 
 fn solve_quartic_roots(args: &[f64; 40], out: &mut [u64; 23]) {
-    let found = quartic::solve_quartic_roots(Quartic {
+    let found = polynomial::solve_quartic_roots(Quartic {
         a: complex_at(args, 0),
         b: complex_at(args, 2),
         c: complex_at(args, 4),

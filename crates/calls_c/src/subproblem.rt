@@ -7,10 +7,10 @@ use crate::shapes::vector;
 use float::SinCos;
 use linear::Vector3;
 use solutionset::SinCosSet2;
+use solutionset::Triple;
+use solutionset::TripleSet4;
 use subproblems::Solved2;
 use subproblems_sc::SolvedSinCos2;
-use tripleset::Triple;
-use tripleset::TripleSet4;
 ghost use Prim.Native.Nat.{_+_, _≤_};
 
 fn triple(args: &[f64; 40], i: usize) -> Triple

@@ -3,8 +3,8 @@ use Prim.Native.Nat.{ℕ, _-_}
 use mathlib.Core.Path.{_≡_, refl, ap}
 use mathlib.Core.List.{List, [], _∷_, _++_, map}
 use lib.ListN.{length, getD, take, replicate}
-use Rattle.pairset.specs.Slots.{padded}
-use Rattle.pairset.proofs.Laws.{four-slots}
+use Rattle.solutionset.specs.Slots.{padded}
+use Rattle.solutionset.proofs.Laws.{four-slots}
 
 module _ {A B : Type 0} (f : A → B) (d : A) where
   -- of each slot

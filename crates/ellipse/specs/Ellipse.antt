@@ -3,15 +3,15 @@
 use mathlib.Core.List.{map}
 use lib.Ieee.{Float, neg}
 use Rattle.float.specs.Num.{_⊕_, _⊖_, _⊗_, _⊘_, one, two}
-use Rattle.pairset.specs.PairSet4.{from-vec}
-use Rattle.pairset.specs.declared.Pair.{Pair}
-use Rattle.pairset.specs.declared.PairSet4.{PairSet4}
+use Rattle.solutionset.specs.PairSet4.{from-vec}
+use Rattle.solutionset.specs.declared.pairs.Pair.{Pair}
+use Rattle.solutionset.specs.declared.pairs.PairSet4.{PairSet4}
 use Rattle.polynomial.specs.Const.{epsilon}
 use Rattle.polynomial.specs.Roots.{roots, real-parts, real-quartic}
-use Rattle.quartic.specs.Quartic.{solve-quartic-roots}
-use Rattle.convolution.specs.declared.Vector2.{Vector2}
-use Rattle.convolution.specs.declared.Vector5.{Vector5}
-use Rattle.convolution.specs.declared.Matrix2.{Matrix2}
+use Rattle.polynomial.specs.Quartic.{solve-quartic-roots}
+use Rattle.polynomial.specs.declared.Vector2.{Vector2}
+use Rattle.polynomial.specs.declared.Vector5.{Vector5}
+use Rattle.polynomial.specs.declared.Matrix2.{Matrix2}
 use Rattle.ellipse.specs.declared.Conic.{Conic}
 
 abbrev pub transpose-2 : Matrix2 → Matrix2

@@ -4,15 +4,15 @@ use polynomial::Vector2;
 use polynomial::Vector5;
 use polynomial::real_parts;
 use polynomial::real_quartic;
+use polynomial::solve_quartic_roots;
 use polynomial::terms::EPSILON;
-use quartic::solve_quartic_roots;
 use solutionset::Pair;
 use solutionset::PairSet4;
 ghost use mathlib.Core.Path.{_≡_};
 ghost use Prim.Native.Nat.{_≤_};
 ghost use mathlib.Core.List.{map};
 ghost use lib.ListN.{take};
-ghost use Rattle.pairset.specs.PairSet4.{from-vec};
+ghost use Rattle.solutionset.specs.PairSet4.{from-vec};
 ghost use Rattle.ellipse.specs.Ellipse.{coefficients, z0, z1, z2, z3, z4, quartic-in-y, x-of, point, solve-two-ellipse-numeric};
 
 // The coefficients of an ellipse: a x x + b x y + c y y + d x + e y + f = 0.

@@ -13,8 +13,8 @@ use Rattle.float.specs.Sine.{sin, cos}
 use Rattle.float.specs.Arctangent.{atan2}
 use Rattle.float.specs.Wrap.{rem-euclid-tau, wrap-to-pi, inverse-wrap-to-pi}
 use Rattle.complex.specs.Complex.{_+ᶜ_, _-ᶜ_, _*ᶜ_, _/ᶜ_, negᶜ, scaleᶜ, absᶜ, sqrtᶜ}
-use Rattle.convolution.specs.Convolution.{vec-self-convolve-2, vec-self-convolve-3, vec-convolve-3}
-use Rattle.convolution.specs.Triangular.{solve-lower-triangular-system-2x2}
+use Rattle.polynomial.specs.Convolution.{vec-self-convolve-2, vec-self-convolve-3, vec-convolve-3}
+use Rattle.polynomial.specs.Triangular.{solve-lower-triangular-system-2x2}
 use Rattle.polynomial.specs.Quadratic.{solve-quadratic-roots}
 use Rattle.polynomial.specs.Roots.{roots}
 use Rattle.linear.specs.Vector.{norm}

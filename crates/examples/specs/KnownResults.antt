@@ -11,13 +11,13 @@ use Rattle.float.specs.Root.{sqrt}
 use Rattle.float.specs.Wrap.{wrap-to-pi, inverse-wrap-to-pi}
 use Rattle.linear.specs.declared.vector.Vector3.{Vector3}
 use Rattle.complex.specs.declared.Complex.{Complex}
-use Rattle.convolution.specs.Convolution.{vec-self-convolve-2, vec-self-convolve-3, vec-convolve-3}
-use Rattle.convolution.specs.Triangular.{solve-lower-triangular-system-2x2}
+use Rattle.polynomial.specs.Convolution.{vec-self-convolve-2, vec-self-convolve-3, vec-convolve-3}
+use Rattle.polynomial.specs.Triangular.{solve-lower-triangular-system-2x2}
 use Rattle.polynomial.specs.Quadratic.{solve-quadratic-roots}
 use Rattle.polynomial.specs.Roots.{roots}
-use Rattle.convolution.specs.declared.Vector2.{Vector2}
-use Rattle.convolution.specs.declared.Vector5.{Vector5}
-use Rattle.convolution.specs.declared.Matrix2.{Matrix2}
+use Rattle.polynomial.specs.declared.Vector2.{Vector2}
+use Rattle.polynomial.specs.declared.Vector5.{Vector5}
+use Rattle.polynomial.specs.declared.Matrix2.{Matrix2}
 use Rattle.polynomial.specs.declared.Quadratic.{Quadratic}
 use Rattle.solutionset.specs.declared.SolutionSet2.the-variants.{One, Two}
 use Rattle.subproblems.specs.Subproblem1.{subproblem1}

@@ -6,15 +6,15 @@ use lib.ListN.{length}
 use Rattle.solutionset.specs.SolutionSet2.{get-all}
 use Rattle.solutionset.specs.declared.SolutionSet2.{SolutionSet2}
 use Rattle.solutionset.specs.declared.SolutionSet2.the-variants.{Zero, One, Two}
-use Rattle.pairset.specs.PairSet2.{get-all as get-pairs}
-use Rattle.pairset.specs.PairSet4.{get-all as get-pairs4}
-use Rattle.tripleset.specs.TripleSet4.{get-all as get-triples}
-use Rattle.pairset.specs.declared.PairSet2.{PairSet2}
-use Rattle.pairset.specs.declared.PairSet2.the-variants as P2
-use Rattle.pairset.specs.declared.PairSet4.{PairSet4}
-use Rattle.pairset.specs.declared.PairSet4.the-variants as P4
-use Rattle.tripleset.specs.declared.TripleSet4.{TripleSet4}
-use Rattle.tripleset.specs.declared.TripleSet4.the-variants as T4
+use Rattle.solutionset.specs.PairSet2.{get-all as get-pairs}
+use Rattle.solutionset.specs.PairSet4.{get-all as get-pairs4}
+use Rattle.solutionset.specs.TripleSet4.{get-all as get-triples}
+use Rattle.solutionset.specs.declared.pairs.PairSet2.{PairSet2}
+use Rattle.solutionset.specs.declared.pairs.PairSet2.the-variants as P2
+use Rattle.solutionset.specs.declared.pairs.PairSet4.{PairSet4}
+use Rattle.solutionset.specs.declared.pairs.PairSet4.the-variants as P4
+use Rattle.solutionset.specs.declared.triples.TripleSet4.{TripleSet4}
+use Rattle.solutionset.specs.declared.triples.TripleSet4.the-variants as T4
 
 pub few2 : (s : SolutionSet2) → length (get-all s) ≤ 2
 few2 Zero = omega arith

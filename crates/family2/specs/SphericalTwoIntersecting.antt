@@ -7,8 +7,8 @@ use Rattle.linear.specs.Matrix.{Matrix, apply, rot}
 use Rattle.linear.specs.Vector.{norm, _+ᵛ_, _-ᵛ_, negᵛ}
 use Rattle.linear.specs.declared.vector.Vector3.{Vector3}
 use Rattle.solutionset.specs.SolutionSet2.{get-all}
-use Rattle.pairset.specs.PairSet2.{get-all as get-pairs}
-use Rattle.pairset.specs.declared.Pair.{Pair}
+use Rattle.solutionset.specs.PairSet2.{get-all as get-pairs}
+use Rattle.solutionset.specs.declared.pairs.Pair.{Pair}
 use Rattle.subproblems.specs.Subproblem2.{subproblem2}
 use Rattle.subproblems.specs.Subproblem3.{subproblem3}
 use Rattle.subproblems.specs.declared.Solved2.{Solved2}

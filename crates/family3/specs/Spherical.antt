@@ -6,9 +6,9 @@ use lib.Ieee.{Float}
 use Rattle.linear.specs.Matrix.{Matrix}
 use Rattle.linear.specs.Vector.{negᵛ}
 use Rattle.linear.specs.declared.vector.Vector3.{Vector3}
-use Rattle.tripleset.specs.TripleSet4.{get-all}
-use Rattle.tripleset.specs.declared.Triple.{Triple}
-use Rattle.tripleset.specs.declared.TripleSet4.{TripleSet4}
+use Rattle.solutionset.specs.TripleSet4.{get-all}
+use Rattle.solutionset.specs.declared.triples.Triple.{Triple}
+use Rattle.solutionset.specs.declared.triples.TripleSet4.{TripleSet4}
 use Rattle.subproblem5.specs.Subproblem5.{subproblem5}
 use Rattle.kinematics.specs.declared.Kinematics.{Kinematics}
 use Rattle.answers.specs.declared.Answer.{Answer}

@@ -1,1 +1,2 @@
+pub mod RootCount
 pub mod Filter

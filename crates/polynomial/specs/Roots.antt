@@ -8,10 +8,10 @@ use Rattle.float.specs.Num.{as-f64, nought}
 use Rattle.float.specs.Number.{abs}
 use Rattle.complex.specs.Complex.{scaleᶜ}
 use Rattle.complex.specs.declared.Complex.{Complex}
-use Rattle.pairset.specs.Slots.{padded}
+use Rattle.solutionset.specs.Slots.{padded}
 use Rattle.polynomial.specs.declared.Roots.{Roots}
 use Rattle.polynomial.specs.declared.Quartic.{Quartic}
-use Rattle.convolution.specs.declared.Vector5.{Vector5}
+use Rattle.polynomial.specs.declared.Vector5.{Vector5}
 
 infixl 7 _·ᶜ_
 -- a whole factor, as the Rust writes it: 27 ·ᶜ z is 27.0 * z

@@ -6,7 +6,7 @@ use Rattle.float.specs.Num.{as-f64}
 use Rattle.float.specs.Root.{sqrt}
 use Rattle.qr.specs.Qr.{stepped, qr}
 use Rattle.qr.specs.declared.Vector4.{Vector4}
-use Rattle.convolution.specs.declared.Matrix2.{Matrix2}
+use Rattle.polynomial.specs.declared.Matrix2.{Matrix2}
 
 abbrev vector : ℕ → ℕ → ℕ → ℕ → Vector4
 vector x y z w = record { x = as-f64 x; y = as-f64 y; z = as-f64 z; w = as-f64 w }

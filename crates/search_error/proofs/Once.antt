@@ -8,9 +8,9 @@ use lib.Seq.{sets}
 use Rattle.float.specs.Num.{infinity}
 use Rattle.linear.specs.Matrix.{Matrix, row, array3, product, row-apply, rot}
 use Rattle.linear.specs.declared.vector.Vector3.{Vector3}
-use Rattle.pairset.specs.PairSet4.{get-all}
-use Rattle.pairset.specs.declared.Pair.{Pair}
-use Rattle.pairset.specs.declared.PairSet4.{PairSet4}
+use Rattle.solutionset.specs.PairSet4.{get-all}
+use Rattle.solutionset.specs.declared.pairs.Pair.{Pair}
+use Rattle.solutionset.specs.declared.pairs.PairSet4.{PairSet4}
 use Rattle.subproblems.specs.Subproblem1.{subproblem1-within, subproblem1}
 use Rattle.kinematics.specs.declared.Kinematics.{Kinematics}
 use Rattle.search_error.specs.Error as Plain

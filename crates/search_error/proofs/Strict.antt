@@ -18,8 +18,8 @@ use Rattle.float.specs.Sine.{sin}
 use Rattle.linear.specs.Vector.{norm, _-ᵛ_}
 use Rattle.linear.specs.Matrix.{Matrix, part, row, apply, transpose, rodrigues, rot-unit, rot}
 use Rattle.linear.specs.declared.vector.Vector3.{Vector3}
-use Rattle.pairset.specs.PairSet4.{get-all, size}
-use Rattle.pairset.specs.declared.Pair.{Pair}
+use Rattle.solutionset.specs.PairSet4.{get-all, size}
+use Rattle.solutionset.specs.declared.pairs.Pair.{Pair}
 use Rattle.kinematics.specs.declared.Kinematics.{Kinematics}
 use Rattle.search_definition.specs.Demand.{Strict}
 use Rattle.search_error.specs.Error.{p-16, t64-given-q1, answer-error, error-given-q1, error-i, answers}

@@ -1,19 +1,25 @@
 // Solution sets: enums of up to two or four solutions, with the solutions in their cases. The Rust's
 // SolutionSet2<T> and SolutionSet4<T> are an enum for each T that the solvers use. Where the Rust
 // panics on a case, the method here asks its caller to show that the case does not arise; the arm
-// that stands for it gives 0.0. Sets of pairs stand in pairset and are named here too; sets of triples
-// stand in tripleset.
+// that stands for it gives 0.0. Sets of pairs and of triples
+// stand in modules of their own, and are named here too.
+mod pairs;
+mod triples;
+
 ghost use mathlib.Core.Path.{_≡_};
 ghost use Prim.Native.Nat.{_<_, _≤_};
 ghost use lib.ListN.{take};
 ghost use Rattle.solutionset.specs.SolutionSet2 as SolutionSet2s;
 ghost use Rattle.solutionset.specs.SolutionSet4 as SolutionSet4s;
 use float::SinCos;
-pub use pairset::Pair;
-pub use pairset::PairSet2;
-pub use pairset::PairSet4;
-pub use pairset::PairSlots2;
-pub use pairset::PairSlots4;
+pub use pairs::Pair;
+pub use pairs::PairSet2;
+pub use pairs::PairSet4;
+pub use pairs::PairSlots2;
+pub use pairs::PairSlots4;
+pub use triples::Triple;
+pub use triples::TripleSet4;
+pub use triples::TripleSlots4;
 
 // The solutions of a set in slots, and their number. A slot past the last solution holds 0.0.
 pub struct Slots2 {

@@ -3,7 +3,7 @@ use mathlib.Core.Path.{_≡_, refl}
 use mathlib.Core.List.{flatMap}
 use Rattle.linear.specs.Vector.{norm}
 use Rattle.linear.specs.declared.vector.Vector3.{Vector3}
-use Rattle.convolution.specs.Convolution.{cone-polynomials}
+use Rattle.polynomial.specs.Convolution.{cone-polynomials}
 use Rattle.subproblem5.specs.Port.{circle, point, points, angles, agree, of-points, at-root}
 use Rattle.subproblem5.specs.Reduced.{reduced-solutionset}
 use Rattle.subproblem5.specs.Subproblem5.{h-vec, subproblem5}

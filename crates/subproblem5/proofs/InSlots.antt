@@ -6,11 +6,11 @@ use mathlib.Core.Bool.{Bool, true, false, cond}
 use mathlib.Core.List.{List, [], _∷_, _++_, append-nil, append-assoc, flatMap, map}
 use lib.ListN.{length, getD, set, take, drop, replicate, length-append, length-replicate, replicate-append-replicate}
 use lib.Seq.{set-append-seam, append-snoc, take-append-seam, drop-append-add, sets, sets-eq}
-use Rattle.pairset.specs.Slots.{padded}
-use Rattle.pairset.proofs.Laws.{four-slots}
-use Rattle.tripleset.specs.TripleSet4.{none, slots}
-use Rattle.tripleset.specs.declared.Triple.{Triple}
-use Rattle.tripleset.specs.declared.TripleSlots4.{TripleSlots4}
+use Rattle.solutionset.specs.Slots.{padded}
+use Rattle.solutionset.proofs.Laws.{four-slots}
+use Rattle.solutionset.specs.TripleSet4.{none, slots}
+use Rattle.solutionset.specs.declared.triples.Triple.{Triple}
+use Rattle.solutionset.specs.declared.triples.TripleSlots4.{TripleSlots4}
 use Rattle.subproblem5.specs.Port.{pushed}
 
 -- ---- one more

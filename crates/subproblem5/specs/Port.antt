@@ -12,11 +12,11 @@ use Rattle.float.specs.Root.{sqrt}
 use Rattle.linear.specs.Vector.{dot, norm-squared, _+ᵛ_, _-ᵛ_, scaleᵛ}
 use Rattle.linear.specs.Matrix.{apply, outer}
 use Rattle.linear.specs.declared.vector.Vector3.{Vector3}
-use Rattle.pairset.specs.Slots.{padded}
-use Rattle.tripleset.specs.TripleSet4.{none}
-use Rattle.tripleset.specs.declared.Triple.{Triple}
-use Rattle.tripleset.specs.declared.TripleSlots4.{TripleSlots4}
-use Rattle.convolution.specs.declared.Vector2.{Vector2}
+use Rattle.solutionset.specs.Slots.{padded}
+use Rattle.solutionset.specs.TripleSet4.{none}
+use Rattle.solutionset.specs.declared.triples.Triple.{Triple}
+use Rattle.solutionset.specs.declared.triples.TripleSlots4.{TripleSlots4}
+use Rattle.polynomial.specs.declared.Vector2.{Vector2}
 use Rattle.norms.specs.Norms.{tolerance}
 use Rattle.subproblems.specs.Columns.{columns}
 use Rattle.subproblems.specs.Subproblem1.{subproblem1}

@@ -7,9 +7,9 @@ use lib.Dec.{leb}
 use lib.Ieee.{Float}
 use lib.ListN.{length, take}
 use Rattle.float.specs.Num.{_⊖_, _⊗_, _⊘_, one, infinity}
-use Rattle.tripleset.specs.TripleSet4.{from-vec}
-use Rattle.tripleset.specs.declared.Triple.{Triple}
-use Rattle.tripleset.specs.declared.TripleSet4.{TripleSet4}
+use Rattle.solutionset.specs.TripleSet4.{from-vec}
+use Rattle.solutionset.specs.declared.triples.Triple.{Triple}
+use Rattle.solutionset.specs.declared.triples.TripleSet4.{TripleSet4}
 use Rattle.triple_sort.specs.Sort.{triple-above, ordered-above, sort}
 use Rattle.triple_sort.specs.declared.Ordered.{Ordered}
 

@@ -10,14 +10,14 @@ use Rattle.float.specs.Root.{sqrt}
 use Rattle.linear.specs.Vector.{dot, norm, _+ᵛ_, _-ᵛ_, scaleᵛ}
 use Rattle.linear.specs.Matrix.{apply, outer}
 use Rattle.linear.specs.declared.vector.Vector3.{Vector3}
-use Rattle.tripleset.specs.declared.Triple.{Triple}
-use Rattle.tripleset.specs.declared.TripleSet4.{TripleSet4}
-use Rattle.convolution.specs.Convolution.{vec-self-convolve-2, vec-self-convolve-3, vec-convolve-3, cone-polynomials}
-use Rattle.quartic.specs.Quartic.{solve-quartic-roots}
+use Rattle.solutionset.specs.declared.triples.Triple.{Triple}
+use Rattle.solutionset.specs.declared.triples.TripleSet4.{TripleSet4}
+use Rattle.polynomial.specs.Convolution.{vec-self-convolve-2, vec-self-convolve-3, vec-convolve-3, cone-polynomials}
+use Rattle.polynomial.specs.Quartic.{solve-quartic-roots}
 use Rattle.polynomial.specs.Roots.{roots, real-parts, real-quartic}
-use Rattle.convolution.specs.declared.Cone.{Cone}
-use Rattle.convolution.specs.declared.Vector2.{Vector2}
-use Rattle.convolution.specs.declared.Vector5.{Vector5}
+use Rattle.polynomial.specs.declared.Cone.{Cone}
+use Rattle.polynomial.specs.declared.Vector2.{Vector2}
+use Rattle.polynomial.specs.declared.Vector5.{Vector5}
 use Rattle.subproblems.specs.Columns.{columns}
 use Rattle.subproblems.specs.Subproblem1.{subproblem1}
 use Rattle.subproblems.specs.declared.Columns.{Columns}

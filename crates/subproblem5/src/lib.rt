@@ -6,9 +6,9 @@ mod sp5;
 use linear::Vector3;
 use polynomial::Vector2;
 pub use reduced::reduced_solutionset;
+use solutionset::Triple;
 pub use sp5::subproblem5;
 use subproblems::Columns;
-use tripleset::Triple;
 
 // A circle of subproblem 5: p_s and a times the sine and the cosine. With delta its height along k2,
 // a_k2 the products of a's columns and k2, norm_sq the square of their norm, and j_a_k2 these times j.

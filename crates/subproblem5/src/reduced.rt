@@ -1,14 +1,14 @@
 // The choice among more than four candidates of subproblem 5.
+use solutionset::Triple;
+use solutionset::TripleSet4;
 use triple_sort::Ordered;
 use triple_sort::sort;
-use tripleset::Triple;
-use tripleset::TripleSet4;
 ghost use mathlib.Core.Path.{_≡_};
 ghost use mathlib.Core.List.{map};
 ghost use Prim.Native.Nat.{_≤_};
 ghost use lib.ListN.{take};
 ghost use Rattle.float.specs.Num.{infinity};
-ghost use Rattle.tripleset.specs.TripleSet4.{from-vec};
+ghost use Rattle.solutionset.specs.TripleSet4.{from-vec};
 ghost use Rattle.triple_sort.specs.Port.{at-front};
 ghost use Rattle.subproblem5.specs.Port.{unordered, with-gaps};
 ghost use Rattle.subproblem5.specs.Reduced.{solution-of, reduced-solutionset};

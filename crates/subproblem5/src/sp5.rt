@@ -10,18 +10,18 @@ use polynomial::Cone;
 use polynomial::Vector2;
 use polynomial::Vector5;
 use solutionset::Slots4;
+use solutionset::Triple;
+use solutionset::TripleSet4;
+use solutionset::TripleSlots4;
 use subproblems::Columns;
 use subproblems::shared::columns;
 use subproblems::subproblem1_theta;
-use tripleset::Triple;
-use tripleset::TripleSet4;
-use tripleset::TripleSlots4;
 ghost use mathlib.Core.Path.{_≡_};
 ghost use mathlib.Core.List.{[], flatMap};
 ghost use Prim.Native.Nat.{_+_, _<_, _≤_};
 ghost use lib.ListN.{take};
 ghost use Rattle.solutionset.specs.SolutionSet4 as floats;
-ghost use Rattle.tripleset.specs.TripleSet4.{slots};
+ghost use Rattle.solutionset.specs.TripleSet4.{slots};
 ghost use Rattle.subproblem5.specs.Port.{circle, sq, point, points, angles, agree, of-points, at-root, pushed, in-sixteen};
 ghost use Rattle.subproblem5.specs.Subproblem5.{j-transpose-times, eqn-real, h-vec, subproblem5};
 
@@ -96,7 +96,7 @@ fn h_vec(c1: Cone, c3: Cone) -> Slots4
     ensures { λ r. ⌜ r ≡ floats.slots (h-vec c1 c3) ⌝ }
 {
     let eqn = polynomial::real_quartic(eqn_real(c1, c3));
-    polynomial::real_parts(1e-6, quartic::solve_quartic_roots(eqn))
+    polynomial::real_parts(1e-6, polynomial::solve_quartic_roots(eqn))
 }
 
 fn sq(c: Circle, h: f64) -> f64

@@ -8,13 +8,13 @@ use Rattle.float.specs.Num.{_⊕_, _⊖_, _⊗_}
 use Rattle.float.specs.Arctangent.{atan2}
 use Rattle.linear.specs.Vector.{dot}
 use Rattle.linear.specs.declared.vector.Vector3.{Vector3}
-use Rattle.pairset.specs.PairSet4.{get-all, from-vec}
-use Rattle.pairset.specs.declared.Pair.{Pair}
-use Rattle.pairset.specs.declared.PairSet4.{PairSet4}
+use Rattle.solutionset.specs.PairSet4.{get-all, from-vec}
+use Rattle.solutionset.specs.declared.pairs.Pair.{Pair}
+use Rattle.solutionset.specs.declared.pairs.PairSet4.{PairSet4}
 use Rattle.qr.specs.Qr.{qr}
-use Rattle.convolution.specs.Triangular.{solve-lower-triangular-system-2x2}
+use Rattle.polynomial.specs.Triangular.{solve-lower-triangular-system-2x2}
 use Rattle.ellipse.specs.Ellipse.{transpose-2, solve-two-ellipse-numeric}
-use Rattle.convolution.specs.declared.Vector2.{Vector2}
+use Rattle.polynomial.specs.declared.Vector2.{Vector2}
 use Rattle.qr.specs.declared.Vector4.{Vector4}
 use Rattle.subproblems.specs.Columns.{columns, along}
 use Rattle.subproblem6.specs.declared.Plane.{Plane}

@@ -9,8 +9,8 @@ use Rattle.linear.specs.Vector.{dot, norm, normalize}
 use Rattle.linear.specs.declared.vector.Vector3.{Vector3}
 use Rattle.solutionset.specs.SolutionSet2.{size, duplicated, expect-one, expect-two}
 use Rattle.solutionset.specs.declared.SolutionSet2.{SolutionSet2}
-use Rattle.pairset.specs.declared.PairSet2.{PairSet2}
-use Rattle.pairset.specs.declared.PairSet2.the-variants.{One, Two}
+use Rattle.solutionset.specs.declared.pairs.PairSet2.{PairSet2}
+use Rattle.solutionset.specs.declared.pairs.PairSet2.the-variants.{One, Two}
 use Rattle.subproblems.specs.Subproblem4.{subproblem4}
 use Rattle.subproblems.specs.declared.SolvedPairs2.{SolvedPairs2}
 

@@ -6,7 +6,7 @@ use mathlib.Core.Path.{_≡_, refl, sym, ap, subst, _∙_}
 use mathlib.Core.Bool.{Bool, true, false, cond, not, _&&_, true≢false}
 use mathlib.Core.List.{List, [], _∷_, _++_, append-nil, append-assoc}
 use lib.ListN.{length}
-use Rattle.tripleset.specs.declared.Triple.{Triple}
+use Rattle.solutionset.specs.declared.triples.Triple.{Triple}
 use Rattle.triple_sort.specs.Sort.{triple-above, ordered-above, carry, pass, passes, sort}
 use Rattle.triple_sort.specs.Sorted.{Orders, Every, Sorted, Permuted, none, after, exchange, then, those, level, Sorts, Sort-sorts, First-sort-sorts, Second-sort-sorts}
 use Rattle.triple_sort.specs.declared.Ordered.{Ordered}

@@ -6,7 +6,7 @@ use mathlib.Core.Bool.{Bool, true, false, cond, not}
 use mathlib.Core.List.{List, [], _∷_}
 use lib.Ieee.{Float, lt, isNan}
 use lib.ListN.{length}
-use Rattle.tripleset.specs.declared.Triple.{Triple}
+use Rattle.solutionset.specs.declared.triples.Triple.{Triple}
 use Rattle.triple_sort.specs.declared.Ordered.{Ordered}
 
 -- whether the first compares above the second

@@ -3,7 +3,7 @@
 use mathlib.Core.Path.{_≡_}
 use mathlib.Core.Bool.{Bool, true, false, cond, not, _&&_}
 use mathlib.Core.List.{List, [], _∷_}
-use Rattle.tripleset.specs.declared.Triple.{Triple}
+use Rattle.solutionset.specs.declared.triples.Triple.{Triple}
 use Rattle.triple_sort.specs.Sort.{triple-above, ordered-above, sort}
 use Rattle.triple_sort.specs.declared.Ordered.{Ordered}
 

@@ -1,5 +1,5 @@
 // The sort of subproblem 5's candidates.
-use tripleset::Triple;
+use solutionset::Triple;
 ghost use mathlib.Core.Path.{_≡_};
 ghost use Prim.Native.Nat.{_≤_};
 ghost use Rattle.triple_sort.specs.Port.{at-front, in-order};

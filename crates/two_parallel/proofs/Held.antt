@@ -12,8 +12,8 @@ use lib.ListN.{length, take, drop, getD, length-map, List·getD-map}
 use lib.Seq.{sets, sets-eq, take-at, getD-take, length-take-le}
 use Rattle.linear.specs.Matrix.{Matrix}
 use Rattle.linear.specs.declared.vector.Vector3.{Vector3}
-use Rattle.pairset.specs.PairSet4.{size}
-use Rattle.pairset.specs.declared.PairSet4.{PairSet4}
+use Rattle.solutionset.specs.PairSet4.{size}
+use Rattle.solutionset.specs.declared.pairs.PairSet4.{PairSet4}
 use Rattle.kinematics.specs.declared.Kinematics.{Kinematics}
 use Rattle.search_definition.specs.Found.{Entry, Out, nothing, Pair, component, pair-of, pairs}
 use Rattle.search_definition.specs.Search.{search-1d-bracketed}

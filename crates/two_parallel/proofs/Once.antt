@@ -3,9 +3,9 @@ use mathlib.Core.Path.{_≡_, refl, _∙_, ap}
 use lib.Ieee.{Float}
 use Rattle.linear.specs.Matrix.{Matrix, product, transpose, rot}
 use Rattle.linear.specs.declared.vector.Vector3.{Vector3}
-use Rattle.pairset.specs.PairSet4.{at}
-use Rattle.pairset.specs.declared.Pair as Angles
-use Rattle.pairset.specs.declared.PairSet4.{PairSet4}
+use Rattle.solutionset.specs.PairSet4.{at}
+use Rattle.solutionset.specs.declared.pairs.Pair as Angles
+use Rattle.solutionset.specs.declared.pairs.PairSet4.{PairSet4}
 use Rattle.kinematics.specs.declared.Kinematics.{Kinematics}
 use Rattle.search_definition.specs.Found.{Pair}
 use Rattle.search_error.specs.Given.{given, turned}

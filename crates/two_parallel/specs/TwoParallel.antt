@@ -10,8 +10,8 @@ use Rattle.float.specs.Wrap.{wrap-to-pi}
 use Rattle.linear.specs.Matrix.{Matrix, product, apply, transpose, rot}
 use Rattle.linear.specs.Vector.{_-ᵛ_, negᵛ}
 use Rattle.linear.specs.declared.vector.Vector3.{Vector3}
-use Rattle.pairset.specs.PairSet4.{at}
-use Rattle.pairset.specs.declared.Pair as Angles
+use Rattle.solutionset.specs.PairSet4.{at}
+use Rattle.solutionset.specs.declared.pairs.Pair as Angles
 use Rattle.subproblems.specs.Subproblem1.{subproblem1-within}
 use Rattle.kinematics.specs.declared.Kinematics.{Kinematics}
 use Rattle.answers.specs.declared.Answer.{Answer}

@@ -5,8 +5,8 @@ use Rattle.float.specs.Num.{_⊖_}
 use Rattle.float.specs.Wrap.{wrap-to-pi}
 use Rattle.linear.specs.Matrix.{Matrix, product, apply, transpose, rot-unit}
 use Rattle.linear.specs.Vector.{_-ᵛ_}
-use Rattle.pairset.specs.PairSet4.{at}
-use Rattle.pairset.specs.declared.Pair as Angles
+use Rattle.solutionset.specs.PairSet4.{at}
+use Rattle.solutionset.specs.declared.pairs.Pair as Angles
 use Rattle.subproblems.specs.Subproblem1.{subproblem1-within}
 use Rattle.subproblems.specs.declared.Solved1.{Solved1}
 use Rattle.answers.specs.declared.Answer.{Answer}

@@ -3,7 +3,7 @@ use mathlib.Core.List.{List, [], _∷_}
 use Prim.Native.Nat.{ℕ, _<_}
 use lib.Ieee.{Float, nan}
 use lib.ListN.{take, getD}
-use Rattle.pairset.specs.PairSet4.{size}
+use Rattle.solutionset.specs.PairSet4.{size}
 use Rattle.search_definition.specs.Found.{Pair}
 use Rattle.search_error.specs.Given.{turned, t64}
 use Rattle.search_error.specs.declared.Given.{Given}

@@ -5,9 +5,9 @@ use mathlib.Core.List.{List, [], _∷_, map}
 use borrow.Author.Needs.{needs}
 use lib.Ieee.{Float, nan}
 use lib.ListN.{length, getD, take}
-use Rattle.pairset.specs.PairSet4.{from-vec}
-use Rattle.pairset.specs.declared.Pair.{Pair}
-use Rattle.pairset.specs.declared.PairSet4.{PairSet4}
+use Rattle.solutionset.specs.PairSet4.{from-vec}
+use Rattle.solutionset.specs.declared.pairs.Pair.{Pair}
+use Rattle.solutionset.specs.declared.pairs.PairSet4.{PairSet4}
 use Rattle.ellipse.specs.Ellipse.{point}
 use Rattle.ellipse.specs.declared.Conic.{Conic}
 use Rattle.ellipse.proofs.PointSlots.{of-slots}

@@ -3,7 +3,7 @@ use mathlib.Core.Path.{_≡_}
 use lib.Ieee.{Float}
 use Rattle.ellipse.specs.Ellipse.{z0, z1, z2, z3, z4, quartic-in-y}
 use Rattle.ellipse.specs.declared.Conic.{Conic}
-use Rattle.convolution.specs.declared.Vector5.{Vector5}
+use Rattle.polynomial.specs.declared.Vector5.{Vector5}
 use Rattle.ellipse.proofs.quartic_in_y.Statement.{statement}
 use Rattle.ellipse.proofs.quartic_in_y.Tie as tie
 

@@ -5,21 +5,21 @@ use mathlib.Core.List.{map}
 use lib.Ieee.{Float}
 use lib.ListN.{take}
 use Rattle.float.specs.Num.{nought}
-use Rattle.pairset.specs.PairSet4.{from-vec}
+use Rattle.solutionset.specs.PairSet4.{from-vec}
 use Rattle.solutionset.specs.SolutionSet4.{slots}
-use Rattle.pairset.specs.declared.PairSet4.{PairSet4}
+use Rattle.solutionset.specs.declared.pairs.PairSet4.{PairSet4}
 use Rattle.solutionset.specs.declared.Slots4.{Slots4}
 use Rattle.polynomial.specs.Const.{epsilon}
 use Rattle.polynomial.specs.Roots.{roots, real-parts, real-quartic}
-use Rattle.quartic.specs.Quartic.{solve-quartic-roots}
-use Rattle.quartic.proofs.RootCount.{few-real}
+use Rattle.polynomial.specs.Quartic.{solve-quartic-roots}
+use Rattle.polynomial.proofs.RootCount.{few-real}
 use Rattle.ellipse.specs.Ellipse.{coefficients, quartic-in-y, point, solve-two-ellipse-numeric}
 use Rattle.ellipse.specs.declared.Conic.{Conic}
-use Rattle.convolution.specs.declared.Matrix2.{Matrix2}
+use Rattle.polynomial.specs.declared.Matrix2.{Matrix2}
 use Rattle.polynomial.specs.declared.Quartic.{Quartic}
 use Rattle.polynomial.specs.declared.Roots.{Roots}
-use Rattle.convolution.specs.declared.Vector2.{Vector2}
-use Rattle.convolution.specs.declared.Vector5.{Vector5}
+use Rattle.polynomial.specs.declared.Vector2.{Vector2}
+use Rattle.polynomial.specs.declared.Vector5.{Vector5}
 use Rattle.ellipse.proofs.PointSlots.{of-used}
 use Rattle.ellipse.proofs.solve_two_ellipse_numeric.Statement.{statement}
 use Rattle.ellipse.proofs.solve_two_ellipse_numeric.Tie as tie

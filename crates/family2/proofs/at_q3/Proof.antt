@@ -8,7 +8,7 @@ use borrow.Author.Needs.{needs}
 use lib.Ieee.{Float}
 use Rattle.linear.specs.Matrix.{Matrix}
 use Rattle.linear.specs.declared.vector.Vector3.{Vector3}
-use Rattle.pairset.specs.PairSet2.{get-all as get-pairs}
+use Rattle.solutionset.specs.PairSet2.{get-all as get-pairs}
 use Rattle.subproblems.specs.declared.SolvedPairs2.{SolvedPairs2}
 use Rattle.kinematics.specs.declared.Kinematics.{Kinematics}
 use Rattle.answers.specs.Written.{Wrote}

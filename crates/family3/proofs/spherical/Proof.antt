@@ -7,8 +7,8 @@ use borrow.Author.Needs.{needs}
 use lib.Ieee.{Float}
 use Rattle.linear.specs.Matrix.{Matrix}
 use Rattle.linear.specs.declared.vector.Vector3.{Vector3}
-use Rattle.tripleset.specs.TripleSet4.{get-all}
-use Rattle.tripleset.specs.declared.TripleSet4.{TripleSet4}
+use Rattle.solutionset.specs.TripleSet4.{get-all}
+use Rattle.solutionset.specs.declared.triples.TripleSet4.{TripleSet4}
 use Rattle.kinematics.specs.declared.Kinematics.{Kinematics}
 use Rattle.answers.specs.Written.{Wrote}
 use Rattle.answers.proofs.Laws.{by-name}

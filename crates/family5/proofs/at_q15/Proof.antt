@@ -8,7 +8,7 @@ use lib.Ieee.{Float}
 use Rattle.linear.specs.Matrix.{Matrix, product, apply, transpose, rot}
 use Rattle.linear.specs.Vector.{_-ᵛ_}
 use Rattle.linear.specs.declared.vector.Vector3.{Vector3}
-use Rattle.pairset.specs.declared.Pair.{Pair}
+use Rattle.solutionset.specs.declared.pairs.Pair.{Pair}
 use Rattle.subproblems.specs.Subproblem1.{subproblem1-within}
 use Rattle.subproblems.specs.declared.Solved1.{Solved1}
 use Rattle.kinematics.specs.declared.Kinematics.{Kinematics}

@@ -6,7 +6,7 @@ use Rattle.float.specs.Num.{nought}
 use Rattle.linear.specs.Matrix.{Matrix, apply}
 use Rattle.linear.specs.Vector.{dot, _+ᵛ_, negᵛ}
 use Rattle.linear.specs.declared.vector.Vector3.{Vector3}
-use Rattle.pairset.specs.declared.PairSet4.{PairSet4}
+use Rattle.solutionset.specs.declared.pairs.PairSet4.{PairSet4}
 use Rattle.subproblem6.specs.Subproblem6.{subproblem6}
 use Rattle.kinematics.specs.declared.Kinematics.{Kinematics}
 use Rattle.family5.specs.ThreeParallel.{theta15}

@@ -7,8 +7,8 @@ use borrow.Author.Needs.{needs}
 use lib.Ieee.{Float}
 use Rattle.linear.specs.Matrix.{Matrix}
 use Rattle.linear.specs.declared.vector.Vector3.{Vector3}
-use Rattle.pairset.specs.PairSet4.{get-all}
-use Rattle.pairset.specs.declared.PairSet4.{PairSet4}
+use Rattle.solutionset.specs.PairSet4.{get-all}
+use Rattle.solutionset.specs.declared.pairs.PairSet4.{PairSet4}
 use Rattle.kinematics.specs.declared.Kinematics.{Kinematics}
 use Rattle.answers.specs.Written.{Wrote}
 use Rattle.answers.proofs.Laws.{by-name}

@@ -4,9 +4,9 @@ use mathlib.Core.List.{List, [], _∷_}
 use borrow.Author.Needs.{needs}
 use lib.Ieee.{Float}
 use Rattle.float.specs.Num.{infinity}
-use Rattle.pairset.specs.declared.Pair.{Pair}
-use Rattle.pairset.specs.declared.PairSet4.{PairSet4}
-use Rattle.pairset.specs.declared.PairSet4.the-variants.{Zero, One, Two, Three, Four}
+use Rattle.solutionset.specs.declared.pairs.Pair.{Pair}
+use Rattle.solutionset.specs.declared.pairs.PairSet4.{PairSet4}
+use Rattle.solutionset.specs.declared.pairs.PairSet4.the-variants.{Zero, One, Two, Three, Four}
 use Rattle.search_error.specs.Given.{turned, t64, answer-error, error-of}
 use Rattle.search_error.specs.declared.Given.{Given}
 use Rattle.search_error.specs.declared.Turned.{Turned}

@@ -2,7 +2,7 @@
 use mathlib.Core.Path.{_≡_}
 use mathlib.Core.Bool.{Bool, true, false}
 use lib.Ieee.{Float}
-use Rattle.tripleset.specs.declared.Triple.{Triple}
+use Rattle.solutionset.specs.declared.triples.Triple.{Triple}
 use Rattle.triple_sort.specs.Sort.{number-above, triple-above}
 use Rattle.triple_sort.proofs.triple_above.Statement.{statement}
 use Rattle.triple_sort.proofs.triple_above.Tie as tie

@@ -5,7 +5,7 @@ use lib.Ieee.{Float}
 use Rattle.float.specs.Num.{_⊖_}
 use Rattle.float.specs.Wrap.{wrap-to-pi}
 use Rattle.linear.specs.Matrix.{Matrix, product, transpose, rot-unit}
-use Rattle.pairset.specs.declared.Pair.{Pair}
+use Rattle.solutionset.specs.declared.pairs.Pair.{Pair}
 use Rattle.subproblems.specs.declared.Solved1.{Solved1}
 use Rattle.answers.specs.declared.Answer.{Answer}
 use Rattle.search_error.specs.Given.{turned-rotation}

@@ -2,9 +2,9 @@
 use mathlib.Core.Path.{_≡_}
 use Prim.Native.Nat.{ℕ, _<_}
 use lib.Ieee.{Float}
-use Rattle.pairset.specs.PairSet4.{at, size}
-use Rattle.pairset.specs.declared.Pair as Angles
-use Rattle.pairset.specs.declared.PairSet4.{PairSet4}
+use Rattle.solutionset.specs.PairSet4.{at, size}
+use Rattle.solutionset.specs.declared.pairs.Pair as Angles
+use Rattle.solutionset.specs.declared.pairs.PairSet4.{PairSet4}
 use Rattle.answers.specs.declared.Answer.{Answer}
 use Rattle.search_error.specs.Given.{turned, t64}
 use Rattle.search_error.specs.declared.Given.{Given}

@@ -3,7 +3,7 @@ use mathlib.Core.Path.{_≡_}
 use lib.Ieee.{Float}
 use Rattle.float.specs.Num.{_⊖_, _⊘_}
 use Rattle.linear.specs.Matrix.{Matrix, product, transpose, rot-unit}
-use Rattle.pairset.specs.declared.Pair.{Pair}
+use Rattle.solutionset.specs.declared.pairs.Pair.{Pair}
 use Rattle.search_error.specs.Given.{turned-rotation, gap, answer-error}
 use Rattle.search_error.specs.declared.Given.{Given}
 use Rattle.search_error.specs.declared.Turned.{Turned}

@@ -5,7 +5,7 @@ use lib.Ieee.{Float}
 use Rattle.float.specs.Num.{nought}
 use Rattle.linear.specs.Vector.{dot, _-ᵛ_}
 use Rattle.linear.specs.declared.vector.Vector3.{Vector3}
-use Rattle.pairset.specs.declared.PairSet4.{PairSet4}
+use Rattle.solutionset.specs.declared.pairs.PairSet4.{PairSet4}
 use Rattle.subproblem6.specs.Subproblem6.{subproblem6}
 use Rattle.search_error.specs.Given.{t64}
 use Rattle.search_error.specs.declared.Given.{Given}

@@ -4,7 +4,7 @@ use native.Mathlib.Omega.{arith}
 use Rattle.solutionset.specs.SolutionSet2.{get-all, few}
 use Rattle.float.specs.Num.{nought}
 use Rattle.solutionset.specs.declared.Slots2.{Slots2}
-use Rattle.pairset.proofs.Laws.{at-slot}
+use Rattle.solutionset.proofs.Laws.{at-slot}
 use Rattle.solutionset.proofs.SolutionSet2.at.Statement.{statement}
 use Rattle.solutionset.proofs.SolutionSet2.at.Tie as tie
 

@@ -4,7 +4,7 @@ use native.Mathlib.Omega.{arith}
 use borrow.Author.Needs.{needs}
 use lib.Ieee.{nan}
 use Rattle.solutionset.specs.SolutionSet2.{from-vec}
-use Rattle.pairset.proofs.Laws.{of-two}
+use Rattle.solutionset.proofs.Laws.{of-two}
 use Rattle.solutionset.proofs.SolutionSet2.from_slots.Statement.{statement}
 use Rattle.solutionset.proofs.SolutionSet2.from_slots.Tie as tie
 

@@ -4,7 +4,7 @@ use native.Mathlib.Omega.{arith}
 use borrow.Author.Needs.{needs}
 use lib.Ieee.{nan}
 use Rattle.solutionset.specs.SolutionSet4.{from-vec}
-use Rattle.pairset.proofs.Laws.{of-four}
+use Rattle.solutionset.proofs.Laws.{of-four}
 use Rattle.solutionset.proofs.SolutionSet4.from_slots.Statement.{statement}
 use Rattle.solutionset.proofs.SolutionSet4.from_slots.Tie as tie
 

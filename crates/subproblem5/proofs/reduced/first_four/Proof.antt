@@ -5,9 +5,9 @@ use mathlib.Core.List.{List, map}
 use lib.Ieee.{nan}
 use lib.ListN.{length, getD, take}
 use borrow.Author.Needs.{needs}
-use Rattle.tripleset.specs.TripleSet4.{from-vec}
-use Rattle.tripleset.specs.declared.TripleSet4.{TripleSet4}
-use Rattle.tripleset.specs.declared.TripleSet4.the-variants.{Four}
+use Rattle.solutionset.specs.TripleSet4.{from-vec}
+use Rattle.solutionset.specs.declared.triples.TripleSet4.{TripleSet4}
+use Rattle.solutionset.specs.declared.triples.TripleSet4.the-variants.{Four}
 use Rattle.subproblem5.specs.Reduced.{solution-of}
 use Rattle.triple_sort.specs.declared.Ordered.{Ordered}
 use Rattle.subproblem5.proofs.InSlots.{map-take, first-four}

@@ -11,9 +11,9 @@ use lib.Seq.{length-take-le, take-take}
 use borrow.Author.Needs.{needs}
 use borrow.Author.Tests.{le-leb, lt-leb}
 use Rattle.float.specs.Num.{infinity}
-use Rattle.tripleset.specs.TripleSet4.{from-vec}
-use Rattle.tripleset.specs.declared.Triple.{Triple}
-use Rattle.tripleset.specs.declared.TripleSet4.{TripleSet4}
+use Rattle.solutionset.specs.TripleSet4.{from-vec}
+use Rattle.solutionset.specs.declared.triples.Triple.{Triple}
+use Rattle.solutionset.specs.declared.triples.TripleSet4.{TripleSet4}
 use Rattle.triple_sort.specs.Port.{at-front, in-order}
 use Rattle.triple_sort.specs.Sort.{number-above, triple-above, ordered-above}
 use Rattle.subproblem5.specs.Port.{unordered, with-gaps}

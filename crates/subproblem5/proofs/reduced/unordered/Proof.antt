@@ -8,7 +8,7 @@ use lib.Ieee.{nan}
 use lib.ListN.{length, getD, set, take, length-set}
 use lib.Seq.{take-suc, take-suc-set}
 use borrow.Author.Needs.{needs}
-use Rattle.tripleset.specs.declared.Triple.{Triple}
+use Rattle.solutionset.specs.declared.triples.Triple.{Triple}
 use Rattle.subproblem5.specs.Port.{unordered}
 use Rattle.triple_sort.specs.declared.Ordered.{Ordered}
 use Rattle.subproblem5.proofs.reduced.unordered.Statement.{statement}

@@ -8,7 +8,7 @@ use lib.Ieee.{Float, nan}
 use lib.ListN.{length, getD, set}
 use borrow.Author.Needs.{needs}
 use Rattle.float.specs.Num.{_⊖_, _⊗_, _⊘_, one, infinity}
-use Rattle.tripleset.specs.declared.Triple.{Triple}
+use Rattle.solutionset.specs.declared.triples.Triple.{Triple}
 use Rattle.triple_sort.specs.Port.{at-front}
 use Rattle.subproblem5.specs.Port.{with-gaps}
 use Rattle.subproblem5.specs.Reduced.{with-ordering}

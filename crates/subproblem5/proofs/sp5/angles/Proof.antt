@@ -3,7 +3,7 @@ use mathlib.Core.Path.{_≡_}
 use lib.Ieee.{Float}
 use Rattle.float.specs.Arctangent.{atan2}
 use Rattle.linear.specs.declared.vector.Vector3.{Vector3}
-use Rattle.tripleset.specs.declared.Triple.{Triple}
+use Rattle.solutionset.specs.declared.triples.Triple.{Triple}
 use Rattle.subproblems.specs.Subproblem1.{subproblem1-theta, subproblem1-within, subproblem1}
 use Rattle.subproblem5.specs.Port.{angles}
 use Rattle.subproblem5.specs.declared.Point.{Point}

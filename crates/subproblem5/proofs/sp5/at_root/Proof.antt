@@ -7,8 +7,8 @@ use borrow.Author.Needs.{needs}
 use Rattle.float.specs.Num.{nought}
 use Rattle.linear.specs.Vector.{scaleᵛ}
 use Rattle.linear.specs.declared.vector.Vector3.{Vector3}
-use Rattle.tripleset.specs.TripleSet4.{slots}
-use Rattle.tripleset.specs.declared.TripleSlots4.{TripleSlots4}
+use Rattle.solutionset.specs.TripleSet4.{slots}
+use Rattle.solutionset.specs.declared.triples.TripleSlots4.{TripleSlots4}
 use Rattle.subproblem5.specs.Port.{sq, points, of-points, at-root}
 use Rattle.subproblem5.specs.declared.Circle.{Circle}
 use Rattle.subproblem5.specs.declared.Points.{Points}

@@ -9,10 +9,10 @@ use lib.ListN.{length, getD, set, take, length-take, length-append}
 use lib.Seq.{take-suc, take-all, getD-take}
 use borrow.Author.Needs.{needs}
 use Rattle.linear.specs.declared.vector.Vector3.{Vector3}
-use Rattle.pairset.specs.Slots.{padded}
-use Rattle.tripleset.specs.TripleSet4.{none, slots}
-use Rattle.tripleset.specs.declared.Triple.{Triple}
-use Rattle.tripleset.specs.declared.TripleSlots4.{TripleSlots4}
+use Rattle.solutionset.specs.Slots.{padded}
+use Rattle.solutionset.specs.TripleSet4.{none, slots}
+use Rattle.solutionset.specs.declared.triples.Triple.{Triple}
+use Rattle.solutionset.specs.declared.triples.TripleSlots4.{TripleSlots4}
 use Rattle.subproblem5.specs.Port.{at-root, in-sixteen}
 use Rattle.subproblem5.specs.declared.Candidates.{Candidates}
 use Rattle.subproblem5.specs.declared.Circle.{Circle}

@@ -5,7 +5,7 @@ use Rattle.float.specs.Num.{_⊕_, _⊗_}
 use Rattle.linear.specs.Vector.{dot, _+ᵛ_}
 use Rattle.linear.specs.Matrix.{Matrix, apply, outer}
 use Rattle.linear.specs.declared.vector.Vector3.{Vector3}
-use Rattle.convolution.specs.declared.Vector2.{Vector2}
+use Rattle.polynomial.specs.declared.Vector2.{Vector2}
 use Rattle.subproblems.specs.Columns.{columns}
 use Rattle.subproblem5.specs.Port.{circle}
 use Rattle.subproblem5.specs.Subproblem5.{j-transpose-times}

@@ -4,9 +4,9 @@ use lib.Ieee.{Float, ofInt, ofBits}
 use Rattle.float.specs.Num.{_⊖_, _⊗_, as-f64}
 use Rattle.linear.specs.Vector.{_-ᵛ_}
 use Rattle.linear.specs.declared.vector.Vector3.{Vector3}
-use Rattle.convolution.specs.Convolution.{vec-self-convolve-2, vec-self-convolve-3, vec-convolve-3}
-use Rattle.convolution.specs.declared.Cone.{Cone}
-use Rattle.convolution.specs.declared.Vector5.{Vector5}
+use Rattle.polynomial.specs.Convolution.{vec-self-convolve-2, vec-self-convolve-3, vec-convolve-3}
+use Rattle.polynomial.specs.declared.Cone.{Cone}
+use Rattle.polynomial.specs.declared.Vector5.{Vector5}
 use Rattle.subproblem5.specs.Subproblem5.{eqn-real}
 use Rattle.subproblem5.proofs.sp5.eqn_real.Statement.{statement}
 use Rattle.subproblem5.proofs.sp5.eqn_real.Tie as tie

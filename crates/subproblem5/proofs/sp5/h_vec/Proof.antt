@@ -1,11 +1,11 @@
 -- Each call gives an equation.
 use mathlib.Core.Path.{_≡_}
-use Rattle.quartic.specs.Quartic.{solve-quartic-roots}
+use Rattle.polynomial.specs.Quartic.{solve-quartic-roots}
 use Rattle.polynomial.specs.Roots.{roots, real-parts, real-quartic}
-use Rattle.convolution.specs.declared.Cone.{Cone}
+use Rattle.polynomial.specs.declared.Cone.{Cone}
 use Rattle.polynomial.specs.declared.Quartic.{Quartic}
 use Rattle.polynomial.specs.declared.Roots.{Roots}
-use Rattle.convolution.specs.declared.Vector5.{Vector5}
+use Rattle.polynomial.specs.declared.Vector5.{Vector5}
 use Rattle.solutionset.specs.SolutionSet4.{slots}
 use Rattle.solutionset.specs.declared.Slots4.{Slots4}
 use Rattle.subproblem5.specs.Subproblem5.{epsilon, eqn-real, h-vec}

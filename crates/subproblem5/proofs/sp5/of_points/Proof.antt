@@ -5,9 +5,9 @@ use mathlib.Core.Path.{_≡_, ap, _∙_}
 use mathlib.Core.List.{List, [], _++_}
 use borrow.Author.Needs.{needs}
 use Rattle.linear.specs.declared.vector.Vector3.{Vector3}
-use Rattle.tripleset.specs.TripleSet4.{slots}
-use Rattle.tripleset.specs.declared.Triple.{Triple}
-use Rattle.tripleset.specs.declared.TripleSlots4.{TripleSlots4}
+use Rattle.solutionset.specs.TripleSet4.{slots}
+use Rattle.solutionset.specs.declared.triples.Triple.{Triple}
+use Rattle.solutionset.specs.declared.triples.TripleSlots4.{TripleSlots4}
 use Rattle.subproblem5.specs.Port.{angles, agree, candidate, of-points, pushed}
 use Rattle.subproblem5.specs.declared.Point.{Point}
 use Rattle.subproblem5.specs.declared.Points.{Points}

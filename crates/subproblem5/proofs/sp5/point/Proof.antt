@@ -3,7 +3,7 @@ use mathlib.Core.Path.{_≡_}
 use lib.Ieee.{Float}
 use Rattle.linear.specs.Vector.{norm-squared, _+ᵛ_, _-ᵛ_}
 use Rattle.linear.specs.declared.vector.Vector3.{Vector3}
-use Rattle.convolution.specs.declared.Vector2.{Vector2}
+use Rattle.polynomial.specs.declared.Vector2.{Vector2}
 use Rattle.subproblem5.specs.Port.{point}
 use Rattle.subproblem5.specs.Subproblem5.{_+²_, _·²_, over², times}
 use Rattle.subproblem5.specs.declared.Circle.{Circle}

@@ -10,8 +10,8 @@ use Rattle.float.specs.Number.{abs}
 use Rattle.float.specs.Root.{sqrt}
 use Rattle.norms.specs.Norms.{tolerance}
 use Rattle.linear.specs.declared.vector.Vector3.{Vector3}
-use Rattle.tripleset.specs.declared.Triple.{Triple}
-use Rattle.tripleset.specs.declared.TripleSlots4.{TripleSlots4}
+use Rattle.solutionset.specs.declared.triples.Triple.{Triple}
+use Rattle.solutionset.specs.declared.triples.TripleSlots4.{TripleSlots4}
 use Rattle.subproblem5.specs.Port.{angles, agree, pushed}
 use Rattle.subproblem5.specs.declared.Point.{Point}
 use Rattle.subproblem5.proofs.sp5.push.Statement.{statement}

@@ -9,13 +9,13 @@ use borrow.Author.Needs.{needs}
 use Rattle.float.specs.Num.{nought}
 use Rattle.linear.specs.declared.vector.Vector3.{Vector3}
 use Rattle.solutionset.specs.SolutionSet4.{slots}
-use Rattle.pairset.specs.Slots.{padded}
-use Rattle.tripleset.specs.TripleSet4.{none}
+use Rattle.solutionset.specs.Slots.{padded}
+use Rattle.solutionset.specs.TripleSet4.{none}
 use Rattle.solutionset.specs.declared.Slots4.{Slots4}
-use Rattle.tripleset.specs.declared.Triple.{Triple}
-use Rattle.tripleset.specs.declared.TripleSet4.{TripleSet4}
-use Rattle.convolution.specs.Convolution.{cone-polynomials}
-use Rattle.convolution.specs.declared.Cone.{Cone}
+use Rattle.solutionset.specs.declared.triples.Triple.{Triple}
+use Rattle.solutionset.specs.declared.triples.TripleSet4.{TripleSet4}
+use Rattle.polynomial.specs.Convolution.{cone-polynomials}
+use Rattle.polynomial.specs.declared.Cone.{Cone}
 use Rattle.subproblem5.specs.Reduced.{reduced-solutionset}
 use Rattle.subproblem5.specs.Port.{circle, at-root, in-sixteen}
 use Rattle.subproblem5.specs.Subproblem5.{h-vec, subproblem5}

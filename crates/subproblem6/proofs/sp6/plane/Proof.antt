@@ -3,10 +3,10 @@ use mathlib.Core.Path.{_≡_}
 use lib.Ieee.{Float}
 use Rattle.float.specs.Num.{_⊕_, _⊗_}
 use Rattle.qr.specs.Qr.{qr}
-use Rattle.convolution.specs.Triangular.{solve-lower-triangular-system-2x2}
+use Rattle.polynomial.specs.Triangular.{solve-lower-triangular-system-2x2}
 use Rattle.ellipse.specs.Ellipse.{transpose-2}
 use Rattle.qr.specs.declared.QrFactors.{QrFactors}
-use Rattle.convolution.specs.declared.Vector2.{Vector2}
+use Rattle.polynomial.specs.declared.Vector2.{Vector2}
 use Rattle.qr.specs.declared.Vector4.{Vector4}
 use Rattle.subproblem6.specs.Subproblem6.{plane}
 use Rattle.subproblem6.specs.declared.Plane.{Plane}

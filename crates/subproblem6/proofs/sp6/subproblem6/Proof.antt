@@ -4,7 +4,7 @@ use mathlib.Core.List.{List}
 use lib.Ieee.{Float}
 use borrow.Author.Needs.{needs}
 use Rattle.linear.specs.declared.vector.Vector3.{Vector3}
-use Rattle.pairset.specs.declared.PairSet4.{PairSet4}
+use Rattle.solutionset.specs.declared.pairs.PairSet4.{PairSet4}
 use Rattle.qr.specs.declared.Vector4.{Vector4}
 use Rattle.subproblem6.specs.Subproblem6.{row, entry, plane, unit-points, thetas, at, subproblem6}
 use Rattle.subproblem6.specs.declared.Plane.{Plane}

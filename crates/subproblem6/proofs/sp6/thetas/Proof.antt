@@ -1,9 +1,9 @@
 -- A lemma for each arm: the set is the constructor at its pairs, and the definition computes there.
 use mathlib.Core.Path.{_≡_}
 use borrow.Author.Needs.{needs}
-use Rattle.pairset.specs.declared.Pair.{Pair}
-use Rattle.pairset.specs.declared.PairSet4.{PairSet4}
-use Rattle.pairset.specs.declared.PairSet4.the-variants.{One, Two, Three, Four}
+use Rattle.solutionset.specs.declared.pairs.Pair.{Pair}
+use Rattle.solutionset.specs.declared.pairs.PairSet4.{PairSet4}
+use Rattle.solutionset.specs.declared.pairs.PairSet4.the-variants.{One, Two, Three, Four}
 use Rattle.subproblem6.specs.Subproblem6.{theta, thetas}
 use Rattle.subproblem6.specs.declared.Plane.{Plane}
 use Rattle.subproblem6.proofs.sp6.thetas.Statement.{statement}

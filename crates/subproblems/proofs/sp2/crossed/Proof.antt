@@ -3,11 +3,11 @@ use Prim.Native.Nat.{ℕ, _<_}
 use mathlib.Core.Path.{_≡_, refl}
 use native.Mathlib.Omega.{arith}
 use Rattle.solutionset.specs.SolutionSet2.{size, duplicated, expect-two}
-use Rattle.pairset.specs.declared.Pair.{Pair}
+use Rattle.solutionset.specs.declared.pairs.Pair.{Pair}
 use Rattle.solutionset.specs.declared.SolutionSet2.{SolutionSet2}
 use Rattle.solutionset.specs.declared.SolutionSet2.the-variants.{Zero, One, Two}
-use Rattle.pairset.specs.declared.PairSet2.{PairSet2}
-use Rattle.pairset.specs.declared.PairSet2.the-variants as pairs
+use Rattle.solutionset.specs.declared.pairs.PairSet2.{PairSet2}
+use Rattle.solutionset.specs.declared.pairs.PairSet2.the-variants as pairs
 use Rattle.subproblems.specs.Subproblem2.{crossed}
 use Rattle.subproblems.proofs.sp2.crossed.Statement.{statement}
 use Rattle.subproblems.proofs.sp2.crossed.Tie as tie

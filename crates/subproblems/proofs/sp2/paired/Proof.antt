@@ -6,8 +6,8 @@ use borrow.Author.Needs.{needs}
 use borrow.Author.Tests.{lt-ltb, le-ltb}
 use Rattle.solutionset.specs.SolutionSet2.{size, expect-one}
 use Rattle.solutionset.specs.declared.SolutionSet2.{SolutionSet2}
-use Rattle.pairset.specs.declared.PairSet2.{PairSet2}
-use Rattle.pairset.specs.declared.PairSet2.the-variants.{One}
+use Rattle.solutionset.specs.declared.pairs.PairSet2.{PairSet2}
+use Rattle.solutionset.specs.declared.pairs.PairSet2.the-variants.{One}
 use Rattle.subproblems.specs.Subproblem2.{crossed, paired}
 use Rattle.subproblems.proofs.sp2.paired.Statement.{statement}
 use Rattle.subproblems.proofs.sp2.paired.Tie as tie

@@ -9,7 +9,7 @@ use Rattle.float.specs.Number.{abs}
 use Rattle.linear.specs.Vector.{dot, norm, normalize, overᵛ}
 use Rattle.linear.specs.declared.vector.Vector3.{Vector3}
 use Rattle.solutionset.specs.SolutionSet2.{size}
-use Rattle.pairset.specs.declared.PairSet2.{PairSet2}
+use Rattle.solutionset.specs.declared.pairs.PairSet2.{PairSet2}
 use Rattle.solutionset.specs.declared.SolutionSet2.the-variants.{One}
 use Rattle.subproblems.specs.Columns.{columns, along}
 use Rattle.subproblems.specs.Subproblem2.{norm-tolerance, paired, subproblem2}

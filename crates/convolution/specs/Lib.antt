@@ -1,2 +1,0 @@
-pub mod Convolution
-pub mod Triangular

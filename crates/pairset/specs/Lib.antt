@@ -1,3 +1,0 @@
-pub mod Slots
-pub mod PairSet2
-pub mod PairSet4
