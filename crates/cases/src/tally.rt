@@ -3,7 +3,7 @@ use libc::STDIN_FILENO;
 use libc::STDOUT_FILENO;
 ghost use mathlib.Core.Path.{_≡_};
 ghost use Prim.Native.Nat.{_≤_, _<_};
-ghost use Rattle.cases.specs.Tally.{bumped, noted, noted-twice, counted};
+ghost use Rattle.cases.specs.Tally.{bumped, noted, noted-twice, counted, Read};
 
 const UNKNOWN: usize = 30;
 
@@ -50,14 +50,17 @@ pub fn count(tally: &mut [u64; 64], n: u64, id: u64, ok: bool)
 
 // Reads the next record, and answers whether there is a whole one. A part of one at the end is a
 // mismatch.
-pub fn next(record: &mut [u8], tally: &mut [u64; 64]) -> bool {
+pub fn next(record: &mut [u8], tally: &mut [u64; 64]) -> bool
+    ensures { λ r. ⌜ Read r (now (tally .entry)) (now (tally .exit)) ⌝ }
+{
     let n = io::read_full(STDIN_FILENO, record);
     if n == record.len() {
         return true;
     }
-    if n > 0 {
-        note_twice(tally, UNKNOWN, false);
+    if n == 0 {
+        return false;
     }
+    note_twice(tally, UNKNOWN, false);
     false
 }
 

@@ -129,7 +129,7 @@ fn solved(
 {
     let mut angles = [NO_ANGLE; 54];
     let mut flags = [NO_FLAG; 9];
-    let n = family_calls::family(id, arm, pose, &mut angles[0..a], &mut flags[0..b]);
+    let n = calls_c::family(id, arm, pose, &mut angles[0..a], &mut flags[0..b]);
     let is_n = n == count;
     is_n && all_right(bytes, &angles, &flags, least(count, least(a / 6, b)))
 }

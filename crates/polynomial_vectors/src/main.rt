@@ -20,7 +20,7 @@ fn gives(bytes: &[u8; 512], out: &[u64; 23]) -> bool {
 fn agrees(bytes: &[u8; 512], id: u64) -> bool {
     let args = arguments(bytes);
     let mut out = [0u64; 23];
-    polynomial_calls::polynomial(id, &args, &mut out);
+    calls_c::bench_polynomial(id, &args, &mut out);
     gives(bytes, &out)
 }
 

@@ -1,5 +1,5 @@
 // The answers of family 6.
-use search_places::record;
+use crate::record;
 ghost use Prim.Native.Nat.{_<_, _≤_};
 
 // What subproblem1 flags by.
@@ -36,7 +36,13 @@ fn check_answers(
     }
 }
 
-pub fn check(head: &[u8; 432], book: &[u8; 1830400], n: usize, m: usize, tally: &mut [u64; 64])
+pub(crate) fn check(
+    head: &[u8; 432],
+    book: &[u8; 1830400],
+    n: usize,
+    m: usize,
+    tally: &mut [u64; 64],
+)
     requires { ⌜ m ≤ 17600 ⌝ }
 {
     let mut angles = [0.0; 105600];

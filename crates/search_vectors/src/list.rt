@@ -1,6 +1,6 @@
 // The list of the search, as one call gives it.
+use crate::record;
 use search::SearchCounts;
-use search_places::record;
 ghost use Prim.Native.Nat.{_≤_};
 
 fn check_pairs(
@@ -20,7 +20,7 @@ fn check_pairs(
     }
 }
 
-pub fn check(
+pub(crate) fn check(
     head: &[u8; 432],
     book: &[u8; 1830400],
     n: usize,

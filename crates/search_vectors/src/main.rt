@@ -9,9 +9,12 @@
 // tools/compare/compare_search.sh runs others.
 mod family;
 mod list;
+mod parts;
+mod place;
+mod record;
+mod rows;
 
 use libc::STDOUT_FILENO;
-use search_places::record;
 ghost use Prim.Native.Nat.{_≤_};
 ghost use lib.ListN.{length};
 
@@ -37,7 +40,7 @@ fn check_search(
     let f = list::check(head, book, n, m, tally);
     most[0] = larger(most[0], f.pairs as u64);
     most[1] = larger(most[1], f.evals);
-    search_parts::check(head, book, n, m, tally);
+    parts::check(head, book, n, m, tally);
     family::check(head, book, n, m, tally);
 }
 

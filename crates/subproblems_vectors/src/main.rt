@@ -23,8 +23,8 @@ fn agrees(bytes: &[u8; 512], id: u64) -> bool {
     let mut out = [0u64; 23];
     match id {
         0 => return false,
-        10 => subproblem_calls::reduced_solutionset(cases::word(bytes, 1), &args, &mut out),
-        _ => subproblem_calls::subproblem(id, &args, &mut out),
+        10 => calls_c::bench_reduced_solutionset(cases::word(bytes, 1), &args, &mut out),
+        _ => calls_c::bench_subproblem(id, &args, &mut out),
     }
     gives(bytes, &out)
 }

@@ -79,7 +79,7 @@ extern "C" {
     fn bench_polynomial(id: u64, args: &[f64; 40], out: &mut [u64; 23]);
     fn bench_subproblem(id: u64, args: &[f64; 40], out: &mut [u64; 23]);
     fn bench_reduced_solutionset(count: u64, args: &[f64; 40], out: &mut [u64; 23]);
-    fn bench_forward_kinematics(arm: &[f64; 39], theta: &[f64; 6], out: &mut [u64; 18]);
+    fn bench_forward_kinematics(arm: &[f64; 39], theta: &[f64; 6], place: &mut [f64; 12]);
     fn bench_family(
         id: u64,
         arm: &[f64; 39],
@@ -103,7 +103,7 @@ struct Call {
     pose: [f64; 12],
     theta: [f64; 6],
     out: [u64; 23],
-    place: [u64; 18],
+    place: [f64; 12],
     angles: [f64; 48],
     flags: [u8; 8],
 }
@@ -125,7 +125,7 @@ impl Call {
             pose: std::array::from_fn(|i| part(39, i)),
             theta: std::array::from_fn(|i| part(39, i)),
             out: [0; 23],
-            place: [0; 18],
+            place: [0.0; 12],
             angles: [0.0; 48],
             flags: [0; 8],
         }
@@ -314,11 +314,11 @@ fn machine_reduced_solutionset(count: u64, a: &[f64; 40], out: &mut [u64; 23]) {
 }
 
 #[inline(never)]
-fn machine_forward_kinematics(arm: &[f64; 39], theta: &[f64; 6], out: &mut [u64; 18]) {
+fn machine_forward_kinematics(arm: &[f64; 39], theta: &[f64; 6], place: &mut [f64; 12]) {
     let (r, p) =
         Kinematics::from_arm(arm).forward_kinematics::<Machine>(&Vector6::from(*theta));
-    for (word, x) in out.iter_mut().zip(r.by_rows().chain(p.by_rows())) {
-        *word = pattern(x);
+    for (number, x) in place.iter_mut().zip(r.by_rows().chain(p.by_rows())) {
+        *number = x;
     }
 }
 
