@@ -32,22 +32,26 @@ loop-holds : tie.Need-loop-holds Inv-loop μ-loop
 loop-holds c =
     (omega arith, refl, refl, refl, refl, refl, refl, record { angles = λ j h. absurd (not-suc-le-zero h); first = λ j h. absurd (not-suc-le-zero h); second = λ j h. absurd (not-suc-le-zero h); third = λ j h. absurd (not-suc-le-zero h); fourth = λ j h. absurd (not-suc-le-zero h) })
 
+-- the state at the call, from the one at the loop's test
+abbrev entry : tie.At-loop Inv-loop μ-loop → tie.Start Inv-loop μ-loop
+entry h = h .before .before .before .before .before .before
+
 -- the angle is the grid's, and the components are the error's there
-at-angle : (c : tie.After-angle Inv-loop μ-loop) → let h = c .before .before in c .angle .result ≡ angle (h .before .before .before .before .before .before .args .n) (h .loop .k)
+at-angle : (c : tie.After-angle Inv-loop μ-loop) → let h = c .before .before in c .angle .result ≡ angle (entry h .args .n) (h .loop .k)
 unfolding angle delta
 at-angle c = c .angle .ensures
 
-component : (c : tie.After-error-given-q1 Inv-loop μ-loop) (i : ℕ) → let h = c .before .before .before in let a = h .before .before .before .before .before .before .args in getD (c .error-given-q1 .result) i nan ≡ error-at (a .fixed) i (angle (a .n) (h .loop .k))
+component : (c : tie.After-error-given-q1 Inv-loop μ-loop) (i : ℕ) → let h = c .before .before .before in let a = entry h .args in getD (c .error-given-q1 .result) i nan ≡ error-at (a .fixed) i (angle (a .n) (h .loop .k))
 unfolding error-at
 component c i =
     let h = c .before .before .before in
-    let a = h .before .before .before .before .before .before .args in
+    let a = entry h .args in
     ap (λ (l : List Float). getD l i nan) (c .error-given-q1 .ensures) ∙ ap (λ x. getD (error-of (a .fixed) x) i nan) (at-angle (c .before))
 
 loop-again : tie.Need-loop-again Inv-loop μ-loop
 loop-again c =
     let h = c .before .before .before in
-    let p = h .before .before .before .before .before .before in
+    let p = entry h in
     let k = h .loop .k in
     let t = c .before .before .loop-test .taken in (
       omega (arith, t),
@@ -69,7 +73,7 @@ loop-again c =
 returns : tie.Need-returns Inv-loop μ-loop
 returns c =
     let h = c .before in
-    let a = h .before .before .before .before .before .before .args in
+    let a = entry h .args in
     let e : h .loop .k ≡ a .n + 1 = omega (arith, c .loop-test .left) in
     (h .loop .inv .1 ∙ e, subst (λ (m : ℕ). Gridded (error-at (a .fixed)) (a .n) m (h .loop .xs) (h .loop .y0) (h .loop .y1) (h .loop .y2) (h .loop .y3)) e (h .loop .inv .7))
 
@@ -80,8 +84,8 @@ sample-grid-spec =
     Inv-loop
     μ-loop
     loop-holds
-    (λ c. omega (arith, c .before .before .before .before .before .before .before .pre .0))
-    (λ c. omega (arith, c .loop-test .taken, c .before .before .before .before .before .before .before .pre .0))
+    (λ c. omega (arith, entry (c .before) .pre .0))
+    (λ c. omega (arith, c .loop-test .taken, entry (c .before) .pre .0))
     (λ _ _. tt)
     (λ _ _. tt)
     (λ c. omega arith)

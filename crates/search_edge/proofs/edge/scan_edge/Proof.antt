@@ -20,7 +20,11 @@ few b =
     let a = b .before .before .before .args in
     ap evals-of (b .bisect .ensures) ∙ ap (λ n. a .g .evals + n) (bisect-asks (error-at (a .fixed) (a .i)) 16 (gap (a .g)))
 
-few-more : (w : tie.After-edge-row) → w .edge-row .result .evals ≡ w .before .before .before .before .before .before .args .g .evals + 23
+-- the state at the call, from the one after the row
+abbrev entry : tie.After-edge-row → tie.Start
+entry w = w .before .before .before .before .before .before
+
+few-more : (w : tie.After-edge-row) → w .edge-row .result .evals ≡ entry w .args .g .evals + 23
 few-more w =
     let b = w .before .before .before in
     let a = b .before .before .before .args in
@@ -35,7 +39,7 @@ edge-row-requires c κs =
 scan-samples-requires : tie.Need-scan-samples-requires
 scan-samples-requires c κs =
     let w = c .before .before .before .before .before .before .before .before .before .before .before .before .before .before .before in
-    omega (arith, few-more w, w .edge-row .ensures .0, w .before .before .before .before .before .before .pre)
+    omega (arith, few-more w, w .edge-row .ensures .0, entry w .pre)
 
 returns : tie.Need-returns
 returns c =
@@ -53,7 +57,7 @@ returns c =
 scan-samples-requires-2 : tie.Need-scan-samples-requires-2
 scan-samples-requires-2 c κs =
     let w = c .before .before .before .before .before .before .before in
-    omega (arith, few-more w, w .edge-row .ensures .0, w .before .before .before .before .before .before .pre)
+    omega (arith, few-more w, w .edge-row .ensures .0, entry w .pre)
 
 returns-2 : tie.Need-returns-2
 returns-2 c =

@@ -36,23 +36,27 @@ loop-holds c =
       λ o e. ap (λ (k : ℕ). afterwards (state (now (a .qs)) (now (a .cs)) (a .f)) (items (error-at (a .fixed) (a .i)) o (row (now (a .xs)) (now (a .ys))) k (a .s))) n,
     )
 
+-- the state at the call, from the one at the loop's test
+abbrev entry : tie.At-loop Inv-loop μ-loop → tie.Start Inv-loop μ-loop
+entry h = h .before .before .before .before .before .before
+
 -- the place and the count stay small, by the bounds of the definition
-small : (h : tie.At-loop Inv-loop μ-loop) → let a = h .before .before .before .before .before .before .args in (h .loop .g .pairs ≤ a .f .pairs + (a .m + 2)) × (h .loop .g .evals ≤ a .f .evals + 69 * (a .m + 2))
+small : (h : tie.At-loop Inv-loop μ-loop) → let a = entry h .args in (h .loop .g .pairs ≤ a .f .pairs + (a .m + 2)) × (h .loop .g .evals ≤ a .f .evals + 69 * (a .m + 2))
 unfolding component
 small h =
-    let a = h .before .before .before .before .before .before .args in
+    let a = entry h .args in
     few-now (error-at (a .fixed) (a .i)) (grid (a .i)) (row (now (a .xs)) (now (a .ys))) (a .s) (a .m) (h .before .if1 .left) (state (now (a .qs)) (now (a .cs)) (a .f)) (state (h .loop .qs) (h .loop .cs) (h .loop .g)) _ (h .loop .inv .4 (grid (a .i)) (λ p. refl))
 
 scan-item-requires : tie.Need-scan-item-requires Inv-loop μ-loop
 scan-item-requires c κs =
     let h = c .before .before .before in
-    omega (arith, small h, h .before .before .before .before .before .before .pre, c .before .before .loop-test .taken)
+    omega (arith, small h, entry h .pre, c .before .before .loop-test .taken)
 
 loop-again : tie.Need-loop-again Inv-loop μ-loop
 loop-again c =
     let w = c .before .before .before .before in
     let h = w .before .before .before .before in
-    let a = h .before .before .before .before .before .before .args in (
+    let a = entry h .args in (
       omega arith,
       omega arith,
       w .scan-item .kept .1 .1 .1 .1 .1 .1 .0 ∙ h .loop .inv .2,
@@ -63,28 +67,28 @@ loop-again c =
 last-dip-requires : tie.Need-last-dip-requires Inv-loop μ-loop
 last-dip-requires c κs =
     let h = c .before .before .before in
-    omega (arith, small h, h .before .before .before .before .before .before .pre, h .before .if1 .left)
+    omega (arith, small h, entry h .pre, h .before .if1 .left)
 
 -- the row's items are done
-done : (l : tie.After-loop Inv-loop μ-loop) → let h = l .before in let a = h .before .before .before .before .before .before .args in (o : Place → Origin) → ((p : Place) → component (o p) ≡ a .i) → state (h .loop .qs) (h .loop .cs) (h .loop .g) ≡ afterwards (state (now (a .qs)) (now (a .cs)) (a .f)) (items (error-at (a .fixed) (a .i)) o (row (now (a .xs)) (now (a .ys))) (a .m - 1) (a .s))
+done : (l : tie.After-loop Inv-loop μ-loop) → let h = l .before in let a = entry h .args in (o : Place → Origin) → ((p : Place) → component (o p) ≡ a .i) → state (h .loop .qs) (h .loop .cs) (h .loop .g) ≡ afterwards (state (now (a .qs)) (now (a .cs)) (a .f)) (items (error-at (a .fixed) (a .i)) o (row (now (a .xs)) (now (a .ys))) (a .m - 1) (a .s))
 done l o e =
     let h = l .before in
-    let a = h .before .before .before .before .before .before .args in
+    let a = entry h .args in
     no-more (error-at (a .fixed) (a .i)) o (row (now (a .xs)) (now (a .ys))) (a .s + a .m) (h .loop .l) (state (h .loop .qs) (h .loop .cs) (h .loop .g)) (l .loop-test .left) (h .loop .inv .4 o e)
 
-small-last : (d : tie.After-last-dip Inv-loop μ-loop) → let a = d .before .before .before .before .before .before .before .before .before .before .args in (d .last-dip .result .pairs ≤ a .f .pairs + (a .m + 2)) × (d .last-dip .result .evals ≤ a .f .evals + 69 * (a .m + 2))
+small-last : (d : tie.After-last-dip Inv-loop μ-loop) → let a = entry (d .before .before .before .before) .args in (d .last-dip .result .pairs ≤ a .f .pairs + (a .m + 2)) × (d .last-dip .result .evals ≤ a .f .evals + 69 * (a .m + 2))
 unfolding component
 small-last d =
     let l = d .before .before .before in
     let h = l .before in
-    let a = h .before .before .before .before .before .before .args in
+    let a = entry h .args in
     few-then (error-at (a .fixed) (a .i)) (grid (a .i)) (row (now (a .xs)) (now (a .ys))) (a .s) (a .m) (h .before .if1 .left) (state (now (a .qs)) (now (a .cs)) (a .f)) _ _ (done l (grid (a .i)) (λ p. refl)) (d .last-dip .ensures (grid (a .i)) (λ p. refl))
 
 first-dip-requires : tie.Need-first-dip-requires Inv-loop μ-loop
 first-dip-requires c κs =
     let d = c .before .before .before .before .before .before in
     let h = d .before .before .before .before in
-    omega (arith, small-last d, h .before .before .before .before .before .before .pre, h .before .if1 .left)
+    omega (arith, small-last d, entry h .pre, h .before .if1 .left)
 
 same-length : tie.Need-same-length Inv-loop μ-loop
 same-length c =
@@ -104,7 +108,7 @@ returns-2 c =
     let d = t .before .before .before .before .before .before .before in
     let l = d .before .before .before in
     let h = l .before in
-    let a = h .before .before .before .before .before .before .args in
+    let a = entry h .args in
     λ o e.
     scan-whole (error-at (a .fixed) (a .i)) o (row (now (a .xs)) (now (a .ys))) (a .s) (a .m) (h .before .if1 .left) (state (now (a .qs)) (now (a .cs)) (a .f)) _ (done l o e) (d .last-dip .ensures o e) (t .first-dip .ensures o e)
 
