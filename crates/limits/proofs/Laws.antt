@@ -1,0 +1,82 @@
+-- The code's tests in order make the definitions.
+use Prim.Native.Nat.{ℕ, _≤_, _<_}
+use mathlib.Core.Path.{_≡_, refl, sym}
+use mathlib.Core.Bool.{Bool, true, false, not}
+use mathlib.Core.List.{List}
+use native.Mathlib.Omega.{arith}
+use borrow.Author.Tests.{eq-eqb, ne-eqb, eqb-false, le-leb, lt-leb}
+use lib.Dec.{eqb}
+use lib.Ieee.{Float, nan, le, lt}
+use lib.ListN.{length, getD}
+use Rattle.answers.specs.declared.Answer.{Answer}
+use Rattle.refusals.specs.Judge.{first-not-finite}
+use Rattle.limits.specs.Limits.{between, all6, Twelve-or-none, inside, ordered, refusal-10}
+
+module _ (low q high : Float) where
+  pub not-below : le low q ≡ true → le q high ≡ between low q high
+  not-below h = rw h
+
+  pub below : le low q ≡ false → false ≡ between low q high
+  below h = rw h
+
+module _ (low high : Float) where
+  pub above : lt high low ≡ true → false ≡ not (lt high low)
+  above h = rw h
+
+  pub not-above : lt high low ≡ false → true ≡ not (lt high low)
+  not-above h = rw h
+
+module _ (l : List Float) where
+  by-length : (q : Answer) (t : Bool) → eqb (length l) 0 ≡ t → Twelve-or-none l → (length l ≡ 12 → ⊥) → true ≡ inside l q
+  unfolding inside
+  by-length q true e fit h = rw e
+  by-length q false e fit h = absurd (h (fit (eqb-false (length l) 0 e)))
+
+  pub none-lent : (q : Answer) → Twelve-or-none l → (length l ≡ 12 → ⊥) → true ≡ inside l q
+  none-lent q fit h = by-length q (eqb (length l) 0) refl fit h
+
+  pub each-joint : (q : Answer) {a b c d e f r : Bool} → length l ≡ 12
+      → a ≡ between (getD l 0 nan) (q .q1) (getD l 1 nan)
+      → b ≡ between (getD l 2 nan) (q .q2) (getD l 3 nan)
+      → c ≡ between (getD l 4 nan) (q .q3) (getD l 5 nan)
+      → d ≡ between (getD l 6 nan) (q .q4) (getD l 7 nan)
+      → e ≡ between (getD l 8 nan) (q .q5) (getD l 9 nan)
+      → f ≡ between (getD l 10 nan) (q .q6) (getD l 11 nan)
+      → r ≡ all6 a b c d e f
+      → r ≡ inside l q
+  unfolding inside
+  each-joint q long ea eb ec ed ee ef er = rw (ne-eqb (length l) 0 (λ z. omega arith), er, ea, eb, ec, ed, ee, ef)
+
+  pub each-pair : {a b c d e f r : Bool}
+      → a ≡ not (lt (getD l 1 nan) (getD l 0 nan))
+      → b ≡ not (lt (getD l 3 nan) (getD l 2 nan))
+      → c ≡ not (lt (getD l 5 nan) (getD l 4 nan))
+      → d ≡ not (lt (getD l 7 nan) (getD l 6 nan))
+      → e ≡ not (lt (getD l 9 nan) (getD l 8 nan))
+      → f ≡ not (lt (getD l 11 nan) (getD l 10 nan))
+      → r ≡ all6 a b c d e f
+      → r ≡ ordered l
+  unfolding ordered
+  each-pair ea eb ec ed ee ef er = rw (er, ea, eb, ec, ed, ee, ef)
+
+  pub none-fine : length l ≡ 0 → 0 ≡ refusal-10 l
+  unfolding refusal-10
+  none-fine h = rw (eq-eqb (length l) 0 h)
+
+  pub another-length : (length l ≡ 0 → ⊥) → (length l ≡ 12 → ⊥) → 10 ≡ refusal-10 l
+  unfolding refusal-10
+  another-length some h = rw (ne-eqb (length l) 0 some, ne-eqb (length l) 12 h)
+
+  module _ (some : length l ≡ 0 → ⊥) (long : length l ≡ 12) {p : ℕ} (e : p ≡ first-not-finite l) where
+    pub not-finite : p < 12 → 10 ≡ refusal-10 l
+    unfolding refusal-10
+    not-finite h = rw (ne-eqb (length l) 0 some, eq-eqb (length l) 12 long, lt-leb (length l) (first-not-finite l) (omega arith))
+
+    module _ (h : 12 ≤ p) {t : Bool} (e-t : t ≡ ordered l) where
+      pub fine : t ≡ true → 0 ≡ refusal-10 l
+      unfolding refusal-10
+      fine y = let o : ordered l ≡ true = cc in rw (ne-eqb (length l) 0 some, eq-eqb (length l) 12 long, le-leb (length l) (first-not-finite l) (omega arith), o)
+
+      pub out-of-order : t ≡ false → 10 ≡ refusal-10 l
+      unfolding refusal-10
+      out-of-order n = let o : ordered l ≡ false = cc in rw (ne-eqb (length l) 0 some, eq-eqb (length l) 12 long, le-leb (length l) (first-not-finite l) (omega arith), o)

@@ -1,0 +1,72 @@
+// Joint limits: twelve numbers, low then high, joint by joint, or none.
+use answers::Answer;
+ghost use mathlib.Core.Path.{_≡_};
+ghost use mathlib.Core.Bool.{not};
+ghost use lib.Ieee.{lt};
+ghost use lib.ListN.{length};
+ghost use Rattle.limits.specs.Limits.{between, all6, Twelve-or-none, inside, ordered, refusal-10};
+
+fn between(low: f64, q: f64, high: f64) -> bool
+    ensures { λ r. ⌜ r ≡ between low q high ⌝ }
+{
+    if low <= q { q <= high } else { false }
+}
+
+fn in_order(low: f64, high: f64) -> bool
+    ensures { λ r. ⌜ r ≡ not (lt high low) ⌝ }
+{
+    if high < low { false } else { true }
+}
+
+fn all6(a: bool, b: bool, c: bool, d: bool, e: bool, f: bool) -> bool
+    ensures { λ r. ⌜ r ≡ all6 a b c d e f ⌝ }
+{
+    a & b & c & d & e & f
+}
+
+// Whether an answer is inside the limits, of which there are twelve or none.
+pub fn inside(limits: &[f64], q: Answer) -> bool
+    requires { ⌜ Twelve-or-none (now limits) ⌝ }
+    ensures { λ r. ⌜ r ≡ inside (now (limits .entry)) q ⌝ }
+{
+    if limits.len() != 12 {
+        return true;
+    }
+    let a = between(limits[0], q.q1, limits[1]);
+    let b = between(limits[2], q.q2, limits[3]);
+    let c = between(limits[4], q.q3, limits[5]);
+    let d = between(limits[6], q.q4, limits[7]);
+    let e = between(limits[8], q.q5, limits[9]);
+    let f = between(limits[10], q.q6, limits[11]);
+    all6(a, b, c, d, e, f)
+}
+
+fn ordered(limits: &[f64]) -> bool
+    requires { ⌜ length (now limits) ≡ 12 ⌝ }
+    ensures { λ r. ⌜ r ≡ ordered (now (limits .entry)) ⌝ }
+{
+    let a = in_order(limits[0], limits[1]);
+    let b = in_order(limits[2], limits[3]);
+    let c = in_order(limits[4], limits[5]);
+    let d = in_order(limits[6], limits[7]);
+    let e = in_order(limits[8], limits[9]);
+    let f = in_order(limits[10], limits[11]);
+    all6(a, b, c, d, e, f)
+}
+
+// Refusal 10, or 0.
+pub fn refusal_10(limits: &[f64]) -> u64
+    ensures { λ r. ⌜ r ≡ refusal-10 (now (limits .entry)) ⌝ }
+{
+    let n = limits.len();
+    if n == 0 {
+        return 0;
+    }
+    if n != 12 {
+        return 10;
+    }
+    if refusals::first_not_finite(limits) < 12 {
+        return 10;
+    }
+    if ordered(limits) { 0 } else { 10 }
+}
