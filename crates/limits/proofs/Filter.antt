@@ -1,0 +1,46 @@
+-- Laws of the filtered list.
+use Prim.Native.Nat.{ℕ, suc, _≤_}
+use mathlib.Core.Path.{_≡_, refl, ap}
+use mathlib.Core.Bool.{Bool, true, false, cond}
+use mathlib.Core.List.{List, [], _∷_, _++_}
+use native.Mathlib.Omega.{arith}
+use lib.Ieee.{Float}
+use lib.ListN.{length}
+use Rattle.answers.specs.declared.Answer.{Answer}
+use Rattle.limits.specs.Limits.{inside, allowed}
+use Rattle.limits.specs.Allowed.{Filtered, none, stays, leaves, Allowed}
+
+-- without limits every answer stays
+pub unlimited : (all : List Answer) → allowed [] all ≡ all
+unfolding allowed inside
+unlimited [] = refl
+unlimited (q ∷ all) = ap (λ (l : List Answer). q ∷ l) (unlimited all)
+
+module _ (limits : List Float) where
+  choice : (q : Answer) (all : List Answer) (t : Bool) → inside limits q ≡ t → Filtered limits all (allowed limits all)
+      → Filtered limits (q ∷ all) (cond t (q ∷ allowed limits all) (allowed limits all))
+  choice q all true e f = stays e f
+  choice q all false e f = leaves e f
+
+  filtered : (all : List Answer) → Filtered limits all (allowed limits all)
+  unfolding allowed
+  filtered [] = none
+  filtered (q ∷ all) = choice q all (inside limits q) refl (filtered all)
+
+  fewer : {all some : List Answer} → Filtered limits all some → length some ≤ length all
+  fewer none = omega arith
+  fewer (stays e f) = let h = fewer f in omega arith
+  fewer (leaves e f) = let h = fewer f in omega arith
+
+  pub the-allowed : (all : List Answer) → Allowed limits all
+  the-allowed all = record { filtered = filtered all; no-more = fewer (filtered all) }
+
+  one-then : (q : Answer) (t : Bool) (a b : List Answer) → cond t (q ∷ (a ++ b)) (a ++ b) ≡ cond t (q ∷ a) a ++ b
+  one-then q true a b = refl
+  one-then q false a b = refl
+
+  -- of two lists, one behind the other
+  pub both : (a b : List Answer) → allowed limits (a ++ b) ≡ allowed limits a ++ allowed limits b
+  unfolding allowed
+  both [] b = refl
+  both (q ∷ a) b = rw (both a b) (one-then q (inside limits q) (allowed limits a) (allowed limits b))
