@@ -145,6 +145,7 @@ pub fn opened(fixed: Fixed, i: usize, sign: f64, a: f64, b: f64) -> Valley
     }
 }
 
+// Golden section between a and b, until the best is below zero.
 pub fn lowest(fixed: Fixed, i: usize, sign: f64, a: f64, b: f64) -> Valley
     requires { ⌜ i < 4 ⌝ }
     ensures { λ r. ⌜ result (valley r) (r .evals) ≡ total (Dip.lowest (error-at fixed i) sign a b) ⌝ }
@@ -159,6 +160,9 @@ pub fn lowest(fixed: Fixed, i: usize, sign: f64, a: f64, b: f64) -> Valley
     v
 }
 
+// The dip between a and b, whose errors are fa and fb: one pair or two, or none. The contract says it
+// for every way o to name what added a pair, so that a caller can take its own; the state is the
+// pairs listed so far and the evaluations, and the counts are so low that no counter overflows.
 pub fn minimise_dip(
     fixed: Fixed,
     i: u8,

@@ -113,6 +113,7 @@ pub fn scan_item(
     f
 }
 
+// A dip that goes on past the last sample, l + 1.
 pub fn last_dip(
     fixed: Fixed,
     i: u8,
@@ -134,6 +135,7 @@ pub fn last_dip(
     dip_if(fixed, i, held, x0, x1, y0, y1, qs, cs, f)
 }
 
+// A dip that comes from before the first sample, l.
 pub fn first_dip(
     fixed: Fixed,
     i: u8,
@@ -155,7 +157,9 @@ pub fn first_dip(
     dip_if(fixed, i, held, x0, x1, y0, y1, qs, cs, f)
 }
 
-// m samples from s on.
+// What the m samples from s on add. The contract says it for every way o to name the places of a
+// row, so that the grid and an edge can name their own; the state is the pairs listed so far and the
+// evaluations, and the counts are so low that no counter overflows.
 pub fn scan_samples(
     fixed: Fixed,
     i: u8,
