@@ -89,19 +89,9 @@ pub fn parse_limits(bytes: &[u8]) -> Result<[f64; limits::NUMBERS], u32> {
     Ok(numbers)
 }
 
-/// What the program takes a block for.
-enum Block {
-    Pose(Request),
-    Limits([f64; limits::NUMBERS]),
-}
-
-/// A block by its kind, or its refusal. A short one is refusal 1, whatever it begins.
-fn read(bytes: &[u8]) -> Result<Block, u32> {
-    if bytes.get(KIND) == Some(&LIMITS_KIND) {
-        parse_limits(bytes).map(Block::Limits)
-    } else {
-        parse(bytes).map(Block::Pose)
-    }
+/// Whether the program judges a block as a limits block; a short one is refusal 1 either way.
+fn is_limits(bytes: &[u8]) -> bool {
+    bytes.get(KIND) == Some(&LIMITS_KIND)
 }
 
 fn unchecked_words(request: &Request) -> [u64; WORDS] {
@@ -182,13 +172,17 @@ pub fn for_each_block(
         if length == 0 {
             return Ok(());
         }
-        let request = match read(&block[..length]) {
-            Ok(Block::Limits(numbers)) => {
-                limits = numbers.to_vec();
-                continue;
+        let bytes = &block[..length];
+        let request = if is_limits(bytes) {
+            match parse_limits(bytes) {
+                Ok(numbers) => {
+                    limits = numbers.to_vec();
+                    continue;
+                }
+                Err(refusal) => Err(refusal),
             }
-            Ok(Block::Pose(request)) => Ok(request),
-            Err(refusal) => Err(refusal),
+        } else {
+            parse(bytes)
         };
         each(Placed {
             place,

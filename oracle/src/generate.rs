@@ -405,7 +405,7 @@ mod tests {
                 let bytes = limited_bytes(kind, family, 3, place, 40, Some(2));
                 assert_eq!(bytes, limited_bytes(kind, family, 3, place, 40, Some(2)));
                 if place < 39 {
-                    assert!(bytes.ends_with(&alone) && bytes.len() % BLOCK_BYTES == 0);
+                    assert!(bytes.ends_with(&alone) && bytes.len().is_multiple_of(BLOCK_BYTES));
                     most = most.max(bytes.len() / BLOCK_BYTES);
                 } else {
                     assert!(bytes.chunks(BLOCK_BYTES).any(|chunk| chunk == alone));

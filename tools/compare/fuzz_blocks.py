@@ -127,7 +127,7 @@ def kind_repaired(rng, data):
     return whole(data[:3] + bytes([rng.choice((0, 1, 2, 3, 128, 255, rng.randrange(256)))]) + data[4:])
 
 
-def limits_reserved_repaired(rng, data):
+def reserved_byte_repaired(rng, data):
     at = rng.choice([*range(3), *range(4, 8), *range(8 * 13, 8 * 63)])
     return whole(data[:at] + bytes([rng.randrange(1, 256)]) + data[at + 1 :])
 
@@ -153,20 +153,20 @@ def limit_repaired(rng, data):
     return whole(with_word(data, rng.randrange(1, 13), rng.choice(ODD + zeros)))
 
 
-def limits_random_repaired(rng, data):
+def random_repaired(rng, data):
     """Any twelve words: about one time in 64 every low is at or below its high."""
     return whole(data[:8] + rng.randbytes(8 * 12) + data[8 * 13 :])
 
 
-def limits_ordered_repaired(rng, data):
+def ordered_repaired(rng, data):
     """Twelve finite numbers, each joint's in order."""
     numbers = [sorted(rng.uniform(-4, 4) for _ in range(2)) for _ in range(6)]
     return whole(data[:8] + struct.pack("<12d", *sum(numbers, [])) + data[8 * 13 :])
 
 
 LIMITS_DAMAGE = [flip, cut, insert, remove, swap, swap_repaired, flip_repaired, kind_repaired,
-                 limits_reserved_repaired, ends_exchanged, ends_equal, front_flipped_repaired, limit_repaired,
-                 limits_random_repaired, limits_ordered_repaired, untouched]
+                 reserved_byte_repaired, ends_exchanged, ends_equal, front_flipped_repaired, limit_repaired,
+                 random_repaired, ordered_repaired, untouched]
 
 
 # Where limits blocks stand. `limits` is a good one that was made for `pose`; `bad` is it damaged, or a bad
@@ -249,7 +249,8 @@ def limited_inputs(count, seed):
         damage = LIMITS_DAMAGE[place % len(LIMITS_DAMAGE)]
         stand = STANDS[place // len(LIMITS_DAMAGE) % len(STANDS)]
         name = "limits block, " + damage.__name__.replace("_", " ")
-        damaged = rng.choice(bad) if damage is untouched else damage(rng, limits)
+        # What stays as it is must be bad already.
+        damaged = damage(rng, rng.choice(bad) if damage is untouched else limits)
         yield name, stand(rng, pose, limits, damaged)
 
 
