@@ -2,7 +2,7 @@
 
 use crate::{
     arith::Arith,
-    block::{self, Request},
+    block::{for_each_block, Request},
     inverse_kinematics::{auxiliary::Kinematics, TwoParallel},
     solve::{pose_parts, TWO_PARALLEL},
 };
@@ -10,8 +10,8 @@ use std::f64::consts::PI;
 use std::io::{self, Read, Write};
 
 /// The request of a block of family 6 that no refusal applies to.
-pub fn two_parallel_request(bytes: &[u8]) -> Option<Request> {
-    block::parse(bytes).ok().filter(|request| {
+pub fn two_parallel_request(judged: Result<Request, u32>) -> Option<Request> {
+    judged.ok().filter(|request| {
         let mut numbers = request.arm.iter().chain(&request.pose);
         request.family == TWO_PARALLEL
             && (1..=400).contains(&request.n)
@@ -63,9 +63,9 @@ pub fn print<A: Arith>(
     output: &mut impl Write,
     angles: Vec<Angles>,
 ) -> io::Result<()> {
-    block::for_each_block(input, |place, bytes| {
-        writeln!(output, "block {place}")?;
-        let Some(request) = two_parallel_request(bytes) else {
+    for_each_block(input, |block| {
+        writeln!(output, "block {}", block.place)?;
+        let Some(request) = two_parallel_request(block.request) else {
             return Ok(());
         };
         let ((r, p), kin) = (

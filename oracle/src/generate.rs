@@ -6,10 +6,11 @@ use crate::{
     arms::{degenerate, random_axis, realistic, Arm},
     block::{self, Request, BLOCK_BYTES},
     inverse_kinematics::auxiliary::Kinematics,
+    limited::{self, ROOM},
     linalg::Vector6,
     odd::{finite_odd, nudged, spoil},
     rng::Rng,
-    solve::{SPHERICAL, TWO_PARALLEL},
+    solve::{full_list, SPHERICAL, TWO_PARALLEL},
 };
 use std::f64::consts::{FRAC_PI_2, PI};
 
@@ -285,6 +286,46 @@ pub fn block_bytes(
     bytes.to_vec()
 }
 
+/// How often a list that is too long for the program comes again under other limits.
+const CROWDED: usize = 8;
+
+/// The same block with limits blocks before it, none to three, and after the last of all; a limits
+/// block cut short may end them. A list too long for the program's space comes again under limits
+/// that leave about as many answers as fit.
+pub fn limited_bytes(
+    kind: Kind,
+    family: u64,
+    seed: u64,
+    place: u64,
+    count: u64,
+    n: Option<u64>,
+) -> Vec<u8> {
+    let sample = sample(kind, family, seed, place, n);
+    let answers = full_list::<Rules>(family, sample.n, &sample.arm, &sample.pose)
+        .map_or(Vec::new(), |list| list.angles);
+    let pose = block_bytes(kind, family, seed, place, count, n);
+    let rng = &mut Rng::of(&[seed, 5, kind as u64, family, place]);
+
+    let mut bytes = Vec::new();
+    for _ in 0..rng.pick(&[0, 0, 0, 1, 1, 1, 1, 2, 2, 3]) {
+        bytes.extend(limited::limits_block(&answers, rng));
+    }
+    bytes.extend(&pose);
+    if pose.len() < BLOCK_BYTES {
+        return bytes;
+    }
+    if answers.len() > ROOM {
+        for _ in 0..CROWDED {
+            bytes.extend(limited::crowded(&answers, rng));
+            bytes.extend(&pose);
+        }
+    }
+    if place + 1 == count {
+        bytes.extend(limited::ending(&answers, rng));
+    }
+    bytes
+}
+
 /// A block that one of the refusals 2, 3, 4, 7 and 8 applies to, now and then several, and now
 /// and then none.
 fn refused_block(sample: &Sample, rng: &mut Rng) -> [u8; BLOCK_BYTES] {
@@ -351,5 +392,26 @@ mod tests {
             let mut all = s.arm.iter().chain(&s.pose);
             assert!(all.all(|x| x.is_finite()), "place {place}");
         }
+    }
+
+    /// The limits blocks leave the pose blocks as they are, and every part but the last is whole.
+    #[test]
+    fn limits_blocks_stand_among_the_same_pose_blocks() {
+        let mut most = 0;
+        for (_, kind) in KINDS {
+            for place in 0..40 {
+                let family = 1 + place % 6;
+                let alone = block_bytes(kind, family, 3, place, 40, Some(2));
+                let bytes = limited_bytes(kind, family, 3, place, 40, Some(2));
+                assert_eq!(bytes, limited_bytes(kind, family, 3, place, 40, Some(2)));
+                if place < 39 {
+                    assert!(bytes.ends_with(&alone) && bytes.len().is_multiple_of(BLOCK_BYTES));
+                    most = most.max(bytes.len() / BLOCK_BYTES);
+                } else {
+                    assert!(bytes.chunks(BLOCK_BYTES).any(|chunk| chunk == alone));
+                }
+            }
+        }
+        assert_eq!(most, 4);
     }
 }

@@ -18,6 +18,8 @@ mod inverse_kinematics;
 #[cfg(test)]
 mod known_results;
 mod lacking;
+mod limited;
+mod limits;
 mod linalg;
 mod missed;
 mod nalgebra;
@@ -54,7 +56,8 @@ usage: oracle COMMAND
   call NAME                              run one function on each line of hexadecimal arguments
   call --list                            the functions with their argument words
   generate KIND FAMILY SEED COUNT [N]    blocks; KIND is reachable, unreachable, bent, random,
-                                         hostile, headers, degenerate or round
+                                         hostile, headers, degenerate or round; --limits puts
+                                         limits blocks among them
   angles KIND FAMILY SEED COUNT [N]      the angles that made the poses of generate's blocks
   recover KIND FAMILY SEED COUNT [N]     how many poses, reachable, degenerate or round, have their own
                                          angles among their answers (n = 200 in family 6);
@@ -93,6 +96,7 @@ struct CommandLine {
     list: bool,
     by: By,
     room: usize,
+    limits: bool,
 }
 
 enum Arithmetic {
@@ -120,7 +124,8 @@ fn parse(arguments: impl Iterator<Item = String>) -> Result<CommandLine, Failure
         arithmetic: Arithmetic::Rules,
         list: false,
         by: By::Nothing,
-        room: 1024,
+        room: limited::ROOM,
+        limits: false,
     };
     let mut arguments = arguments;
     while let Some(argument) = arguments.next() {
@@ -128,6 +133,7 @@ fn parse(arguments: impl Iterator<Item = String>) -> Result<CommandLine, Failure
             "--machine" => line.arithmetic = Arithmetic::Machine,
             "--nalgebra" => line.arithmetic = Arithmetic::Nalgebra,
             "--list" => line.list = true,
+            "--limits" => line.limits = true,
             "--arms" => line.by = By::Arm,
             "--tilt" => line.by = By::Tilt,
             "--distance" => line.by = By::Distance,
@@ -177,7 +183,7 @@ fn command<A: Arith>(line: &CommandLine, output: &mut impl Write) -> Result<(), 
         }
         ["generate", kind, family, seed, count, ref n @ ..] => {
             let request = Generated::parse(kind, family, seed, count, n)?;
-            told(request.write_blocks(output))
+            told(request.write_blocks(output, line.limits))
         }
         ["angles", kind, family, seed, count, ref n @ ..] => {
             let request = Generated::parse(kind, family, seed, count, n)?;
@@ -312,9 +318,15 @@ impl Generated {
         })
     }
 
-    fn write_blocks(&self, output: &mut impl Write) -> io::Result<()> {
+    /// The blocks, with limits blocks among them if so told.
+    fn write_blocks(&self, output: &mut impl Write, limits: bool) -> io::Result<()> {
+        let bytes_at = if limits {
+            generate::limited_bytes
+        } else {
+            generate::block_bytes
+        };
         for place in 0..self.count {
-            output.write_all(&generate::block_bytes(
+            output.write_all(&bytes_at(
                 self.kind,
                 self.family,
                 self.seed,
@@ -495,9 +507,9 @@ fn write_comparison(output: &mut impl Write, found: &beside::Beside) -> io::Resu
 /// One line for each block: its place, the pairs and the evaluations; then one for each pair: q1,
 /// the component, and what added it. Blocks that are refused or not of family 6 have no pairs.
 fn print_pairs<A: Arith>(input: &mut impl Read, output: &mut impl Write) -> io::Result<()> {
-    block::for_each_block(input, |place, bytes| {
-        let request = errors::two_parallel_request(bytes);
-        let Some(request) = request else {
+    block::for_each_block(input, |block| {
+        let place = block.place;
+        let Some(request) = errors::two_parallel_request(block.request) else {
             return writeln!(output, "block {place} pairs 0 evals 0");
         };
         let (r, p) = solve::pose_parts(&request.pose);
@@ -560,4 +572,34 @@ fn call<A: Arith>(
         told(writeln!(output, "{}", fields.0.join(" ")))?;
     }
     Ok(())
+}
+
+#[cfg(test)]
+mod tests {
+    use super::*;
+    use generate::{block_bytes, Kind};
+
+    /// Limits that nothing is inside of leave the search's list as it is, and its places.
+    #[test]
+    fn pairs_are_those_before_filtering() {
+        let limits = block::make_limits(&[9.0; 12]);
+        let (mut poses, mut limited) = (Vec::new(), Vec::new());
+        for place in 0..5 {
+            let pose = block_bytes(Kind::Reachable, 6, 8, place, 5, Some(25));
+            limited.extend([&limits[..], &pose].concat());
+            poses.extend(pose);
+        }
+        let printed = |input: &[u8]| {
+            let mut output = Vec::new();
+            print_pairs::<Rules>(&mut &input[..], &mut output).unwrap();
+            output
+        };
+        let answers = |input: &[u8]| {
+            let mut output = Vec::new();
+            block::solve_blocks::<Rules>(&mut &input[..], &mut output, 1024).unwrap();
+            String::from_utf8(output).unwrap().lines().count()
+        };
+        assert_eq!(printed(&poses), printed(&limited));
+        assert!(answers(&poses) > 5 && answers(&limited) == 5);
+    }
 }

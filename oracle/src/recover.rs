@@ -173,8 +173,9 @@ pub fn print_reasons<A: Arith>(
     output: &mut impl Write,
     angles: [f64; 6],
 ) -> io::Result<()> {
-    for_each_block(input, |place, bytes| {
-        let Some(request) = two_parallel_request(bytes) else {
+    for_each_block(input, |block| {
+        let place = block.place;
+        let Some(request) = two_parallel_request(block.request) else {
             return writeln!(output, "block {place} -");
         };
         let sample = Sample {

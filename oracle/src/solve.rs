@@ -1,4 +1,5 @@
-//! Document 01's solve call: refusals 4 to 9, the families, n and the two lent lists.
+//! Document 01's solve call with document 02's limits: refusals 4 to 10, the families, n, and the two
+//! lent lists.
 
 use crate::{
     arith::Arith,
@@ -6,6 +7,7 @@ use crate::{
         auxiliary::Kinematics, spherical, spherical_two_intersecting, spherical_two_parallel,
         three_parallel, three_parallel_two_intersecting, two_parallel,
     },
+    limits::Limits,
     linalg::{Matrix, Matrix3, Vector3, Vector6},
 };
 
@@ -36,6 +38,17 @@ pub struct Answers {
     pub angles: Vec<Vector6>,
     pub flags: Vec<bool>,
     pub evaluations: u64,
+}
+
+impl Answers {
+    /// The answers inside the limits, in their order; without limits all.
+    fn within(&self, limits: Option<Limits>) -> Vec<(&Vector6, bool)> {
+        self.angles
+            .iter()
+            .zip(self.flags.iter().copied())
+            .filter(|(angles, _)| limits.is_none_or(|limits| limits.admit(angles)))
+            .collect()
+    }
 }
 
 /// A pose is the rotation by rows, then the place.
@@ -104,24 +117,36 @@ fn judge<'a>(
     Ok((arm, pose))
 }
 
-/// The solve call. Refusals 1 to 8 write nothing; refusal 9 writes the first answers that fit
-/// both lists; elements past the last written answer keep their values.
+/// The full list before any limits, or one of the refusals 4 to 8.
+pub fn full_list<A: Arith>(family: u64, n: u64, arm: &[f64], pose: &[f64]) -> Result<Answers, u32> {
+    let (arm, pose) = judge(family, n, arm, pose)?;
+    let kin = Kinematics::from_arm(arm);
+    Ok(family_answers::<A>(family, n as usize, &kin, pose))
+}
+
+/// The solve call. `limits` is twelve numbers or none; refusal 10 comes before 4. Answers outside
+/// the limits leave the list, and what is left is counted, written and held against refusal 9; the
+/// evaluations are those of the full list. Refusals but 9 write nothing; refusal 9 writes the first
+/// answers that fit both lists; elements past the last written answer keep their values.
 pub fn solve<A: Arith>(
     family: u64,
     n: u64,
     arm: &[f64],
     pose: &[f64],
+    limits: &[f64],
     angle_list: &mut [f64],
     flag_list: &mut [u8],
 ) -> Outcome {
-    let (arm, pose) = match judge(family, n, arm, pose) {
+    let judged = Limits::judge(limits)
+        .and_then(|limits| Ok((limits, full_list::<A>(family, n, arm, pose)?)));
+    let (limits, full) = match judged {
         Ok(parts) => parts,
         Err(refusal) => return Outcome::refused(refusal),
     };
-    let list = family_answers::<A>(family, n as usize, &Kinematics::from_arm(arm), pose);
+    let list = full.within(limits);
     let room = (angle_list.len() / 6).min(flag_list.len());
 
-    for (i, (angles, flag)) in list.angles.iter().zip(&list.flags).take(room).enumerate() {
+    for (i, (angles, flag)) in list.iter().take(room).enumerate() {
         for (j, angle) in angles.iter().enumerate() {
             angle_list[6 * i + j] = angle;
         }
@@ -129,9 +154,9 @@ pub fn solve<A: Arith>(
     }
 
     Outcome {
-        refusal: if list.angles.len() > room { 9 } else { 0 },
-        answers: list.angles.len(),
-        evaluations: list.evaluations,
+        refusal: if list.len() > room { 9 } else { 0 },
+        answers: list.len(),
+        evaluations: full.evaluations,
     }
 }
 
@@ -142,7 +167,27 @@ mod tests {
     use crate::generate::{sample, Kind};
 
     fn call(family: u64, n: u64, arm: &[f64], pose: &[f64]) -> Outcome {
-        solve::<Rules>(family, n, arm, pose, &mut [7.0; 48], &mut [7; 8])
+        limited(family, n, arm, pose, &[])
+    }
+
+    fn limited(family: u64, n: u64, arm: &[f64], pose: &[f64], limits: &[f64]) -> Outcome {
+        let (mut angles, mut flags) = ([7.0; 48], [7; 8]);
+        let outcome = solve::<Rules>(family, n, arm, pose, limits, &mut angles, &mut flags);
+        if outcome.refusal != 0 && outcome.refusal != 9 {
+            assert_eq!((angles, flags), ([7.0; 48], [7; 8]));
+        }
+        outcome
+    }
+
+    /// Twelve numbers that admit every angle but a NaN.
+    const WIDE: [f64; 12] = [
+        -9.0, 9.0, -9.0, 9.0, -9.0, 9.0, -9.0, 9.0, -9.0, 9.0, -9.0, 9.0,
+    ];
+
+    fn same(one: &Vector6, other: &[f64]) -> bool {
+        one.iter()
+            .zip(other)
+            .all(|(a, b)| a.to_bits() == b.to_bits())
     }
 
     #[test]
@@ -176,7 +221,7 @@ mod tests {
     fn refusal_9_writes_the_first_answers_that_fit() {
         let s = sample(Kind::Reachable, 1, 1, 0, None);
         let (mut all, mut flags) = ([7.0; 48], [7; 8]);
-        let whole = solve::<Rules>(1, 0, &s.arm, &s.pose, &mut all, &mut flags);
+        let whole = solve::<Rules>(1, 0, &s.arm, &s.pose, &[], &mut all, &mut flags);
         assert_eq!(whole.refusal, 0);
         assert!(whole.answers > 2 && whole.evaluations == 0);
         assert!(flags[whole.answers..].iter().all(|&f| f == 7));
@@ -184,7 +229,7 @@ mod tests {
 
         // Two whole sixes and five more; flags for three.
         let (mut some, mut few) = ([7.0; 17], [7; 3]);
-        let part = solve::<Rules>(1, 0, &s.arm, &s.pose, &mut some, &mut few);
+        let part = solve::<Rules>(1, 0, &s.arm, &s.pose, &[], &mut some, &mut few);
         assert_eq!(
             part,
             Outcome {
@@ -195,5 +240,117 @@ mod tests {
         assert_eq!(some[..12], all[..12]);
         assert_eq!(some[12..], [7.0; 5]);
         assert_eq!(few, [flags[0], flags[1], 7]);
+    }
+
+    #[test]
+    fn refusal_10_comes_before_4() {
+        let (arm, pose) = ([0.0; 39], [0.0; 12]);
+        let mut bad = WIDE;
+        bad[11] = f64::INFINITY;
+        let mut crossed = WIDE;
+        crossed.swap(4, 5);
+        let faults: [&[f64]; 4] = [&WIDE[1..], &bad, &crossed, &[0.0]];
+        for limits in faults {
+            assert_eq!(limited(0, 1, &arm, &pose, limits), Outcome::refused(10));
+            assert_eq!(limited(3, 0, &arm, &pose, limits), Outcome::refused(10));
+            assert_eq!(limited(6, 200, &arm, &pose, limits), Outcome::refused(10));
+        }
+        // Good limits and none leave the other refusals as they are.
+        let mut far = pose;
+        far[0] = f64::NAN;
+        for limits in [&WIDE[..], &[]] {
+            assert_eq!(limited(9, 1, &arm, &pose, limits), Outcome::refused(4));
+            assert_eq!(limited(3, 1, &arm[1..], &pose, limits), Outcome::refused(5));
+            assert_eq!(limited(3, 1, &arm, &pose[1..], limits), Outcome::refused(6));
+            assert_eq!(limited(3, 1, &arm, &pose, limits), Outcome::refused(7));
+            assert_eq!(limited(3, 0, &arm, &far, limits), Outcome::refused(8));
+        }
+    }
+
+    /// Limits with both ends of a joint at an answer's own angle keep exactly the answers that have
+    /// that angle there, in their order, with the evaluations of the full list.
+    #[test]
+    fn answers_outside_leave_the_list_and_the_others_stay_in_order() {
+        let mut fewer = 0;
+        for place in 0..60 {
+            let family = 1 + place % 6;
+            let s = sample(Kind::Reachable, family, 21, place, Some(50));
+            let full = full_list::<Rules>(family, s.n, &s.arm, &s.pose)
+                .ok()
+                .unwrap();
+            for own in &full.angles {
+                for joint in 0..6 {
+                    let mut limits = WIDE;
+                    limits[2 * joint..2 * joint + 2].fill(own[joint]);
+                    let kept: Vec<usize> = (0..full.angles.len())
+                        .filter(|&i| full.angles[i][joint] == own[joint])
+                        .collect();
+                    let (mut angles, mut flags) = ([7.0; 600], [7; 100]);
+                    let outcome = solve::<Rules>(
+                        family,
+                        s.n,
+                        &s.arm,
+                        &s.pose,
+                        &limits,
+                        &mut angles,
+                        &mut flags,
+                    );
+                    let expected = Outcome {
+                        refusal: 0,
+                        answers: kept.len(),
+                        evaluations: full.evaluations,
+                    };
+                    assert_eq!(outcome, expected);
+                    for (i, &k) in kept.iter().enumerate() {
+                        assert!(same(&full.angles[k], &angles[6 * i..]));
+                        assert_eq!(flags[i], full.flags[k] as u8);
+                    }
+                    assert!(angles[6 * kept.len()..].iter().all(|&x| x == 7.0));
+                    assert!(flags[kept.len()..].iter().all(|&x| x == 7));
+                    fewer += (kept.len() < full.angles.len()) as usize;
+                }
+            }
+        }
+        assert!(fewer > 100, "{fewer}");
+    }
+
+    #[test]
+    fn the_filtered_list_is_held_against_refusal_9() {
+        let s = sample(Kind::Reachable, 1, 1, 0, None);
+        let full = full_list::<Rules>(1, 0, &s.arm, &s.pose).ok().unwrap();
+        let mut firsts: Vec<f64> = full.angles.iter().map(|q| q[0]).collect();
+        firsts.sort_by(f64::total_cmp);
+        let (all, most) = (firsts.len(), firsts[firsts.len() - 1]);
+        let below = firsts.partition_point(|&q| q < most);
+        assert!(below > 1 && below < all, "{firsts:?}");
+        let mut limits = WIDE;
+        limits[1] = firsts[below - 1];
+        // Room for as many as stay, then for one fewer.
+        for (room, refusal) in [(below, 0), (below - 1, 9)] {
+            let (mut angles, mut flags) = (vec![7.0; 6 * room], vec![7; all]);
+            let call = solve::<Rules>(1, 0, &s.arm, &s.pose, &limits, &mut angles, &mut flags);
+            assert_eq!((call.refusal, call.answers), (refusal, below));
+            let kept = full.angles.iter().filter(|q| q[0] <= limits[1]);
+            for (q, six) in kept.zip(angles.chunks(6)) {
+                assert!(same(q, six));
+            }
+            assert!(flags[room..].iter().all(|&flag| flag == 7));
+        }
+        // Nothing stays: no refusal, even without room.
+        (limits[0], limits[1]) = (8.0, 9.0);
+        let none = solve::<Rules>(1, 0, &s.arm, &s.pose, &limits, &mut [], &mut []);
+        assert_eq!((none.refusal, none.answers), (0, 0));
+    }
+
+    #[test]
+    fn evaluations_are_those_before_filtering() {
+        let s = sample(Kind::Reachable, 6, 3, 0, Some(200));
+        let free = limited(6, 200, &s.arm, &s.pose, &[]);
+        let mut limits = WIDE;
+        (limits[6], limits[7]) = (8.0, 8.0);
+        let empty = limited(6, 200, &s.arm, &s.pose, &limits);
+        assert!(free.answers > 0 && free.evaluations > 200);
+        assert_eq!((empty.refusal, empty.answers), (0, 0));
+        assert_eq!(empty.evaluations, free.evaluations);
     }
 }

@@ -1,13 +1,16 @@
 #!/usr/bin/env python3
 """Gives damaged input to the solver program and to the reference program, and compares what they print.
 
-    tools/compare/fuzz_blocks.py [COUNT] [SEED]
+    tools/compare/fuzz_blocks.py [--limits] [COUNT] [SEED]
 
 COUNT inputs (12,000 unless given, at least 10,000): random bytes of every length from 0 to 2,000, random
 bytes of random lengths, and good blocks of the reference program's generator with one sort of damage:
 bits flipped, cut short, bytes put in or taken out, words swapped, and, with the check word repaired so
 that the later tests are reached, bits flipped, NaN and infinite numbers, reserved bytes set, family and n
-changed. Each input is the whole standard input of a new process. Needs the reference program (oracle/,
+changed. With --limits as many more: a limits block of the generator, a bad one or a good one damaged in the same
+ways and in its own (kind byte, ends of a joint exchanged, odd and random numbers, half of it a pose block's), with
+the pose block that it was made for behind it or before it: first, after a good one, in a row, last, before a
+short block. Each input is the whole standard input of a new process. Needs the reference program (oracle/,
 built) and target/bin/ik; the environment variable IK_PROGRAM names another solver program.
 
 Prints how often each sort of input and each refusal was seen. Exit status 1 where something differs, an
@@ -15,6 +18,7 @@ exit status other than 0 among it; the first such inputs are kept in target/fuzz
 """
 
 import collections
+import itertools
 import os
 import pathlib
 import random
@@ -115,15 +119,139 @@ DAMAGE = [flip, cut, insert, remove, swap, number_repaired, reserved_repaired, f
           flip_repaired, swap_repaired, several, cut_after_good, untouched]
 
 
-def good_blocks(seed):
-    """A few hundred blocks of every kind and family, with a small n."""
-    pool = []
+# What limits blocks are damaged with. Each takes and gives one block, or what is left of it.
+
+
+def kind_repaired(rng, data):
+    """Byte 3 says what a block is."""
+    return whole(data[:3] + bytes([rng.choice((0, 1, 2, 3, 128, 255, rng.randrange(256)))]) + data[4:])
+
+
+def reserved_byte_repaired(rng, data):
+    at = rng.choice([*range(3), *range(4, 8), *range(8 * 13, 8 * 63)])
+    return whole(data[:at] + bytes([rng.randrange(1, 256)]) + data[at + 1 :])
+
+
+def ends_exchanged(rng, data):
+    low = rng.randrange(1, 13, 2)
+    first, second = data[8 * low : 8 * low + 8], data[8 * low + 8 : 8 * low + 16]
+    return whole(data[: 8 * low] + second + first + data[8 * low + 16 :])
+
+
+def ends_equal(rng, data):
+    low = rng.randrange(1, 13, 2)
+    end = data[8 * low : 8 * low + 8]
+    return whole(data[: 8 * low] + end + end + data[8 * low + 16 :])
+
+
+def front_flipped_repaired(rng, data):
+    return whole(flip(rng, data[: 8 * 13]) + data[8 * 13 :])
+
+
+def limit_repaired(rng, data):
+    zeros = [0, 1 << 63, 1, (1 << 63) + 1]
+    return whole(with_word(data, rng.randrange(1, 13), rng.choice(ODD + zeros)))
+
+
+def random_repaired(rng, data):
+    """Any twelve words: about one time in 64 every low is at or below its high."""
+    return whole(data[:8] + rng.randbytes(8 * 12) + data[8 * 13 :])
+
+
+def ordered_repaired(rng, data):
+    """Twelve finite numbers, each joint's in order."""
+    numbers = [sorted(rng.uniform(-4, 4) for _ in range(2)) for _ in range(6)]
+    return whole(data[:8] + struct.pack("<12d", *sum(numbers, [])) + data[8 * 13 :])
+
+
+LIMITS_DAMAGE = [flip, cut, insert, remove, swap, swap_repaired, flip_repaired, kind_repaired,
+                 reserved_byte_repaired, ends_exchanged, ends_equal, front_flipped_repaired, limit_repaired,
+                 random_repaired, ordered_repaired, untouched]
+
+
+# Where limits blocks stand. `limits` is a good one that was made for `pose`; `bad` is it damaged, or a bad
+# one of the generator.
+
+
+def once(rng, pose, limits, bad):
+    return bad + pose
+
+
+def after_good(rng, pose, limits, bad):
+    """The good one stays in force where the other is refused."""
+    return limits + pose + bad + pose
+
+
+def in_a_row(rng, pose, limits, bad):
+    several = [limits, bad, bad]
+    rng.shuffle(several)
+    return b"".join(several) + pose
+
+
+def last(rng, pose, limits, bad):
+    return pose + limits + bad
+
+
+def before_short(rng, pose, limits, bad):
+    return pose + bad + cut(rng, rng.choice((pose, limits)))
+
+
+def spliced(rng, pose, limits, bad):
+    """The first words of one kind and the rest of the other."""
+    at = 8 * rng.choice((1, 12, 13, 14, 40, 52, 62, 63, rng.randrange(64)))
+    first, second = rng.sample((pose, limits), 2)
+    return whole(first[:at] + second[at:]) + pose
+
+
+STANDS = [once, after_good, in_a_row, last, before_short, spliced]
+
+
+def generated(seed, *options):
+    """The generator's blocks, a list for each kind and family, with a small n."""
     for kind in ("reachable", "unreachable", "bent", "random", "hostile", "degenerate"):
         for family in range(1, 7):
             words = [ORACLE, "generate", kind, str(family), str(seed), "20"] + (["3"] if family == 6 else [])
-            made = subprocess.run(words, capture_output=True, check=True).stdout
-            pool += [made[at : at + 512] for at in range(0, len(made), 512)]
-    return pool
+            made = subprocess.run([*words, *options], capture_output=True, check=True).stdout
+            yield [made[at : at + 512] for at in range(0, len(made), 512)]
+
+
+def good_blocks(seed):
+    """A few hundred blocks of every kind and family."""
+    return sum(generated(seed), [])
+
+
+def accepted(limits):
+    return not subprocess.run([ORACLE, "blocks"], input=limits, capture_output=True, check=True).stdout
+
+
+def limited_blocks(seed):
+    """Good limits blocks of every kind and family, each with the pose block that it was made for, and
+    bad ones."""
+    good, bad = [], []
+    for poses, among in zip(generated(seed), generated(seed, "--limits")):
+        waiting = []
+        for block in among:
+            if poses and block == poses[0]:
+                good += [(limits, block) for limits in waiting if accepted(limits)]
+                bad += [limits for limits in waiting if not accepted(limits)]
+                poses, waiting = poses[1:], []
+            else:
+                waiting.append(block)
+    return good, bad
+
+
+def limited_inputs(count, seed):
+    """Each input with the name of its damage; every damage stands in every place."""
+    rng = random.Random(f"limits {seed}")
+    good, bad = limited_blocks(seed)
+    for place in range(count):
+        limits, pose = rng.choice(good)
+        damage = LIMITS_DAMAGE[place % len(LIMITS_DAMAGE)]
+        stand = STANDS[place // len(LIMITS_DAMAGE) % len(STANDS)]
+        name = "limits block, " + damage.__name__.replace("_", " ")
+        # What stays as it is must be bad already.
+        damaged = damage(rng, rng.choice(bad) if damage is untouched else limits)
+        yield name, stand(rng, pose, limits, damaged)
 
 
 def inputs(count, seed):
@@ -168,9 +296,9 @@ def keep(number, data):
     return path
 
 
-def compare(words, count, seed):
+def compare(words, given):
     sorts, refusals, lines, different = collections.Counter(), collections.Counter(), 0, 0
-    for number, (sort, data) in enumerate(inputs(count, seed)):
+    for number, (sort, data) in enumerate(given):
         got, want = both(words, data)
         sorts[sort] += 1
         lines += want[1].count(b"\n")
@@ -183,6 +311,8 @@ def compare(words, count, seed):
 
 
 def main(words):
+    with_limits = words[:1] == ["--limits"]
+    words = words[1:] if with_limits else words
     count, seed = (int(words[0]) if words else DEFAULT), (int(words[1]) if len(words) > 1 else 1)
     if count < LEAST:
         sys.exit(f"at least {LEAST} inputs")
@@ -192,11 +322,12 @@ def main(words):
         sys.exit(str(error))
     if not os.path.exists(ORACLE):
         sys.exit("the reference program is missing: cargo build --release --offline in oracle/")
-    sorts, refusals, lines, different = compare(program, count, seed)
+    given = itertools.chain(inputs(count, seed), limited_inputs(count, seed) if with_limits else [])
+    sorts, refusals, lines, different = compare(program, given)
     for sort, seen in sorts.items():
         print(f"{seen:>7} {sort}")
     print(f"{sum(sorts.values()):>7} inputs, {sum(refusals.values())} blocks, {lines} lines")
-    print("blocks by refusal: " + " ".join(f"{r}: {refusals[r]}" for r in range(10)))
+    print("blocks by refusal: " + " ".join(f"{r}: {refusals[r]}" for r in range(11)))
     print(f"{different} inputs with a difference")
     return 1 if different else 0
 
