@@ -31,6 +31,12 @@ mod inputs;
 #[path = "../../../oracle/src/inverse_kinematics/mod.rs"]
 mod inverse_kinematics;
 #[allow(dead_code)]
+#[path = "../../../oracle/src/limited.rs"]
+mod limited;
+
+#[path = "../../../oracle/src/limits.rs"]
+mod limits;
+
 #[path = "../../../oracle/src/linalg.rs"]
 mod linalg;
 #[allow(dead_code)]

@@ -31,6 +31,12 @@ mod generate;
 #[path = "../../../oracle/src/inverse_kinematics/mod.rs"]
 mod inverse_kinematics;
 #[allow(dead_code)]
+#[path = "../../../oracle/src/limited.rs"]
+mod limited;
+
+#[path = "../../../oracle/src/limits.rs"]
+mod limits;
+
 #[path = "../../../oracle/src/linalg.rs"]
 mod linalg;
 #[allow(dead_code)]
@@ -123,6 +129,7 @@ fn oracle<A: Arith>(s: &Sample, lent: &mut Lent) {
         s.n,
         &s.arm,
         &s.pose,
+        &[],
         &mut lent.angles,
         &mut lent.flags,
     );
