@@ -58,11 +58,11 @@ module _ (xs ys : List Answer) (a : List Float) (f : List ℕ) where
     unfolding fitting
     first-all = take-all (room a f) xs h
 
-    angles-are : written xs a f ≡ flatMap six xs ++ drop (6 * length xs) a
+    pub angles-are : written xs a f ≡ flatMap six xs ++ drop (6 * length xs) a
     unfolding written
     angles-are = rw first-all
 
-    flags-are : flagged xs a f ≡ map byte xs ++ drop (length xs) f
+    pub flags-are : flagged xs a f ≡ map byte xs ++ drop (length xs) f
     unfolding flagged
     flags-are = rw first-all
 

@@ -1,3 +1,4 @@
 pub mod Laws
+pub mod Held
 pub mod Steps
 pub mod Kept

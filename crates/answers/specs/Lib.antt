@@ -1,2 +1,3 @@
 pub mod Answer
 pub mod Written
+pub mod Held

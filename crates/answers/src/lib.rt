@@ -1,11 +1,12 @@
-// Answers, and the one writer of an answer to the two lists that a caller lends.
+// Answers, the one writer of an answer to the two lists that a caller lends, and the reader.
 ghost use mathlib.Core.Path.{_≡_};
 ghost use mathlib.Core.List.{_∷_, []};
-ghost use Prim.Native.Nat.{min, _≤_};
+ghost use Prim.Native.Nat.{min, _+_, _*_, _≤_, _<_};
 ghost use lib.ListN.{length};
 ghost use lib.Seq.{sets};
 ghost use Rattle.answers.specs.Answer.{six, flag};
 ghost use Rattle.answers.specs.Written.{Wrote};
+ghost use Rattle.answers.specs.Held.{read};
 
 // Six angles, and whether they are only the nearest in the sense of least squares.
 pub struct Answer {
@@ -58,4 +59,21 @@ pub fn rest(n: usize, len: usize) -> usize
     ensures { λ r. ⌜ r ≡ min n len ⌝ }
 {
     if n < len { n } else { len }
+}
+
+// Answer k of those that two lists hold.
+pub fn read(angles: &[f64], flags: &[u8], k: usize) -> Answer
+    requires { ⌜ (6 * k + 6 ≤ length (now angles)) × (k < length (now flags)) ⌝ }
+    ensures { λ r. ⌜ r ≡ read (now (angles .entry)) (now (flags .entry)) k ⌝ }
+{
+    let at = 6 * k;
+    Answer {
+        q1: angles[at],
+        q2: angles[at + 1],
+        q3: angles[at + 2],
+        q4: angles[at + 3],
+        q5: angles[at + 4],
+        q6: angles[at + 5],
+        is_ls: flags[k] == 1,
+    }
 }

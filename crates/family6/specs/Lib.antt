@@ -1,1 +1,2 @@
 pub mod TwoParallel
+pub mod Kept

@@ -1,5 +1,5 @@
 // The answers of family 6's pairs (q1, i), which the search finds: two_parallel of inverse_kinematics/mod.rs
-// after its search. One loop writes the answer of each, as the other families do.
+// after its search.
 use answers::Answer;
 use families_shared::any3;
 use linear::Matrix3;
@@ -8,14 +8,13 @@ use search_error::GivenQ1;
 use solutionset::Pair;
 use subproblems::Solved1;
 ghost use mathlib.Core.Path.{_≡_};
-ghost use mathlib.Core.List.{_∷_, [], map};
-ghost use Prim.Native.Nat.{_≤_};
-ghost use lib.ListN.{length};
+ghost use Prim.Native.Nat.{_<_};
+ghost use lib.Ieee.{nan};
+ghost use lib.ListN.{length, getD};
 ghost use Rattle.float.specs.Num.{_⊖_};
 ghost use Rattle.float.specs.Wrap.{wrap-to-pi};
-ghost use Rattle.answers.specs.Written.{Wrote};
 ghost use Rattle.family6_answers.specs.FixedAnswer.{t23, q2, q5, answer, answer-at};
-ghost use Rattle.family6_answers.specs.Pairs.{pair, first-pairs, Answered, AllAnswered};
+ghost use Rattle.family6_answers.specs.Pairs.{pair, Answered};
 
 fn t23(fixed: Fixed, tolerance: f64, r_16: Matrix3, r_34: Matrix3) -> Solved1
     ensures { λ r. ⌜ r ≡ t23 fixed tolerance «r_16» «r_34» ⌝ }
@@ -86,43 +85,16 @@ fn answer_at(fixed: Fixed, tolerance: f64, q1: f64, i: usize) -> Answer
     answer(fixed, tolerance, q1, t, t64.at(i))
 }
 
-// Writes the answer of a pair, where it fits both lists.
-fn write_answer(
-    fixed: Fixed,
-    tolerance: f64,
-    q1: f64,
-    i: u8,
-    angles: &mut [f64],
-    flags: &mut [u8],
-) -> usize
-    requires { ⌜ Answered fixed q1 i ⌝ }
-    ensures { λ r. ⌜ Wrote (answer-at fixed tolerance (pair q1 i) ∷ []) (now (angles .entry)) (now (flags .entry)) (now (angles .exit)) (now (flags .exit)) r ⌝ }
+fn component(i: u8) -> usize
+    ensures { λ r. ⌜ r ≡ i ⌝ }
 {
-    answers::put(answer_at(fixed, tolerance, q1, i as usize), angles, flags)
+    i as usize
 }
 
-// Writes the answers of the first m pairs.
-pub fn write_answers(
-    fixed: Fixed,
-    tolerance: f64,
-    qs: &[f64],
-    cs: &[u8],
-    m: usize,
-    angles: &mut [f64],
-    flags: &mut [u8],
-) -> usize
-    requires { ⌜ (m ≤ 17600) × (m ≤ length (now qs)) × (m ≤ length (now cs)) × AllAnswered fixed m (now qs) (now cs) ⌝ }
-    ensures { λ r. ⌜ Wrote (map (answer-at fixed tolerance) (first-pairs m (now (qs .entry)) (now (cs .entry)))) (now (angles .entry)) (now (flags .entry)) (now (angles .exit)) (now (flags .exit)) r ⌝ }
+// The answer of pair k of those that two lists hold.
+pub fn read_pair(fixed: Fixed, tolerance: f64, qs: &[f64], cs: &[u8], k: usize) -> Answer
+    requires { ⌜ (k < length (now qs)) × (k < length (now cs)) × Answered fixed (getD (now qs) k nan) (getD (now cs) k 0) ⌝ }
+    ensures { λ r. ⌜ r ≡ answer-at fixed tolerance (pair (getD (now (qs .entry)) k nan) (getD (now (cs .entry)) k 0)) ⌝ }
 {
-    let mut k = 0;
-    let mut j = 0;
-    while j < m {
-        let q1 = qs[j];
-        let i = cs[j];
-        let at = answers::rest(6 * k, angles.len());
-        let on = answers::rest(k, flags.len());
-        k += write_answer(fixed, tolerance, q1, i, &mut angles[at..], &mut flags[on..]);
-        j += 1;
-    }
-    k
+    answer_at(fixed, tolerance, qs[k], component(cs[k]))
 }

@@ -1,8 +1,8 @@
 -- Laws of the filtered list.
 use Prim.Native.Nat.{ℕ, suc, _≤_}
-use mathlib.Core.Path.{_≡_, refl, ap}
+use mathlib.Core.Path.{_≡_, refl, sym, ap}
 use mathlib.Core.Bool.{Bool, true, false, cond}
-use mathlib.Core.List.{List, [], _∷_, _++_}
+use mathlib.Core.List.{List, [], _∷_, _++_, flatMap}
 use native.Mathlib.Omega.{arith}
 use lib.Ieee.{Float}
 use lib.ListN.{length}
@@ -39,8 +39,29 @@ module _ (limits : List Float) where
   one-then q true a b = refl
   one-then q false a b = refl
 
+  none-allowed : allowed limits [] ≡ []
+  unfolding allowed
+  none-allowed = refl
+
   -- of two lists, one behind the other
   pub both : (a b : List Answer) → allowed limits (a ++ b) ≡ allowed limits a ++ allowed limits b
   unfolding allowed
   both [] b = refl
   both (q ∷ a) b = rw (both a b) (one-then q (inside limits q) (allowed limits a) (allowed limits b))
+
+  pub one-stays : (q : Answer) → inside limits q ≡ true → q ∷ [] ≡ allowed limits (q ∷ [])
+  unfolding allowed
+  one-stays q e = rw e
+
+  pub one-leaves : (q : Answer) → inside limits q ≡ false → [] ≡ allowed limits (q ∷ [])
+  unfolding allowed
+  one-leaves q e = rw e
+
+  -- the answers one by one
+  pub each-allowed : (all : List Answer) → flatMap (λ q. allowed limits (q ∷ [])) all ≡ allowed limits all
+  unfolding flatMap
+  each-allowed [] = sym none-allowed
+  each-allowed (q ∷ all) = rw (each-allowed all) (sym (both (q ∷ []) all))
+
+  pub one-few : (q : Answer) → length (allowed limits (q ∷ [])) ≤ 1
+  one-few q = the-allowed (q ∷ []) .no-more

@@ -2,9 +2,11 @@
 use answers::Answer;
 ghost use mathlib.Core.Path.{_≡_};
 ghost use mathlib.Core.Bool.{not};
+ghost use mathlib.Core.List.{_∷_, []};
 ghost use lib.Ieee.{lt};
 ghost use lib.ListN.{length};
-ghost use Rattle.limits.specs.Limits.{between, all6, Twelve-or-none, inside, ordered, refusal-10};
+ghost use Rattle.answers.specs.Written.{Wrote};
+ghost use Rattle.limits.specs.Limits.{between, all6, Twelve-or-none, inside, allowed, ordered, refusal-10};
 
 fn between(low: f64, q: f64, high: f64) -> bool
     ensures { λ r. ⌜ r ≡ between low q high ⌝ }
@@ -39,6 +41,19 @@ pub fn inside(limits: &[f64], q: Answer) -> bool
     let e = between(limits[8], q.q5, limits[9]);
     let f = between(limits[10], q.q6, limits[11]);
     all6(a, b, c, d, e, f)
+}
+
+// Writes an answer to the start of the rest of the lists, where it is inside the limits and fits
+// both. The result is the number of answers that stay: one or none.
+pub fn put_allowed(limits: &[f64], q: Answer, angles: &mut [f64], flags: &mut [u8]) -> usize
+    requires { ⌜ Twelve-or-none (now limits) ⌝ }
+    ensures { λ r. ⌜ Wrote (allowed (now (limits .entry)) (q ∷ [])) (now (angles .entry)) (now (flags .entry)) (now (angles .exit)) (now (flags .exit)) r ⌝ }
+{
+    if inside(limits, q) {
+        answers::put(q, angles, flags)
+    } else {
+        0
+    }
 }
 
 fn ordered(limits: &[f64]) -> bool

@@ -1,95 +1,62 @@
--- The search, and then the loop that writes.
+-- The search, and what its lists then hold.
 use mathlib.Core.Path.{_≡_, _∙_, ap}
 use mathlib.Core.List.{List, map}
 use Prim.Native.Nat.{ℕ, _≤_}
 use native.Mathlib.Omega.{arith}
 use borrow.Author.Needs.{needs}
 use lib.Ieee.{Float}
-use lib.ListN.{length, replicate, length-replicate}
+use lib.ListN.{length}
 use lib.Seq.{length-sets}
-use Rattle.float.specs.Num.{nought}
 use Rattle.linear.specs.Matrix.{Matrix}
 use Rattle.linear.specs.declared.vector.Vector3.{Vector3}
 use Rattle.kinematics.specs.declared.Kinematics.{Kinematics}
-use Rattle.answers.specs.Written.{Wrote}
 use Rattle.answers.specs.declared.Answer.{Answer}
-use Rattle.answers.proofs.Laws.{by-name}
 use Rattle.search_definition.specs.Found.{SearchPair}
 use Rattle.search_error.specs.Fixed.{fixed, error-at}
 use Rattle.search_error.specs.declared.Fixed.{Fixed}
 use Rattle.search_pairs.specs.State.{angle-of, component-of}
-use Rattle.search.specs.Searched.{Searched, search-within}
+use Rattle.search.specs.Searched as Search
+use Rattle.search.specs.Searched.{search-within}
 use Rattle.search_pairs.specs.declared.SearchCounts.{SearchCounts}
 use Rattle.family6_answers.specs.FixedAnswer.{answer-at}
 use Rattle.family6_answers.specs.Pairs.{first-pairs, AllAnswered}
 use Rattle.family6.specs.TwoParallel.{answer-of, two-parallel, evaluations}
+use Rattle.family6.specs.Kept.{KeptPairs}
+use Rattle.family6.specs.declared.SearchedPairs.{SearchedPairs}
 use Rattle.family6.proofs.SameAnswer.{answer-at-same}
 use Rattle.family6.proofs.Held.{pairs-fit, all-answered, search-held, search-evals}
 use Rattle.family6.proofs.two_parallel.Statement.{statement}
 use Rattle.family6.proofs.two_parallel.Tie as tie
 
-module _ (kin : Kinematics) (r-06 : Matrix) (p-0t : Vector3) (n : ℕ) {g : Fixed} (e : g ≡ fixed kin r-06 p-0t) (q : List Float) (c : List ℕ) {q′ : List Float} {c′ : List ℕ} {r : SearchCounts} (w : Searched (search-within (error-at g) n) q c q′ c′ r) (lq : length q ≡ 17600) (lc : length c ≡ 17600) where
-  asked : (r .pairs ≤ 17600) × (r .pairs ≤ length q′) × (r .pairs ≤ length c′) × AllAnswered g (r .pairs) q′ c′
-  asked =
-      let few = pairs-fit kin r-06 p-0t n e q c w lq lc in
-      let a : length q′ ≡ length q = ap length (w .angles) ∙ length-sets q 0 (map angle-of (search-within (error-at g) n .found)) in
-      let b : length c′ ≡ length c = ap length (w .components) ∙ length-sets c 0 (map component-of (search-within (error-at g) n .found)) in
-      (few, omega arith, omega arith, all-answered kin r-06 p-0t n e q c w lq lc)
-
-  wrote : (tolerance : Float) {a₀ a : List Float} {f₀ f : List ℕ} {k : ℕ}
-      → Wrote (map (answer-at g tolerance) (first-pairs (r .pairs) q′ c′)) a₀ f₀ a f k
-      → Wrote (two-parallel r-06 p-0t kin tolerance n) a₀ f₀ a f k
+module _ (r-06 : Matrix) (p-0t : Vector3) (kin : Kinematics) (n : ℕ) {g : Fixed} {q q′ : List Float} {c c′ : List ℕ} {r : SearchCounts}
+    (lq : length q ≡ 17600)
+    (lc : length c ≡ 17600)
+    (e : g ≡ fixed kin r-06 p-0t)
+    (w : Search.Searched (search-within (error-at g) n) q c q′ c′ r) where
+  same-answers : (tolerance : Float) → map (answer-at g tolerance) (first-pairs (r .pairs) q′ c′) ≡ two-parallel r-06 p-0t kin tolerance n
   unfolding two-parallel
-  wrote tolerance =
-      by-name (ap (λ (x : Fixed). map (answer-at x tolerance) (first-pairs (r .pairs) q′ c′)) e
+  same-answers tolerance =
+      ap (λ (x : Fixed). map (answer-at x tolerance) (first-pairs (r .pairs) q′ c′)) e
       ∙ ap (λ (h : SearchPair → Answer). map h (first-pairs (r .pairs) q′ c′)) (answer-at-same r-06 p-0t kin tolerance)
-      ∙ ap (map (answer-of r-06 p-0t kin tolerance)) (search-held kin r-06 p-0t n e q c w lq lc))
+      ∙ ap (map (answer-of r-06 p-0t kin tolerance)) (search-held kin r-06 p-0t n e q c w lq lc)
 
-  counted : r .evals ≡ evaluations r-06 p-0t kin n
+  same-evaluations : r .evals ≡ evaluations r-06 p-0t kin n
   unfolding evaluations
-  counted = search-evals kin r-06 p-0t n e q c w lq lc
+  same-evaluations = search-evals kin r-06 p-0t n e q c w lq lc
 
--- the two lists as they are made
-abbrev angles-list : List Float
-angles-list = replicate 17600 nought
-
-abbrev components-list : List ℕ
-components-list = replicate 17600 0
-
-angles-long : length angles-list ≡ 17600
-angles-long = length-replicate 17600 nought
-
-components-long : length components-list ≡ 17600
-components-long = length-replicate {A = ℕ} 17600 0
-
-write-answers-requires : tie.Need-write-answers-requires
-write-answers-requires c κs =
-    let v = c .before .before .before .before .before .before in
-    let g = v .before .before .before in
-    let a = g .before .before .before .args in
-    asked (a .kin) (a .r-06) (a .p-0t) (a .n) (g .new .ensures) angles-list components-list (v .search-1d-bracketed .ensures) angles-long components-long
+  kept : KeptPairs r-06 p-0t kin n (record { fixed = g; pairs = r .pairs; evals = r .evals }) q′ c′
+  kept =
+      record {
+        answers = same-answers;
+        answered = all-answered kin r-06 p-0t n e q c w lq lc;
+        counted = same-evaluations;
+        few = pairs-fit kin r-06 p-0t n e q c w lq lc;
+        qs-long = ap length (w .angles) ∙ length-sets q 0 (map angle-of (search-within (error-at g) n .found)) ∙ lq;
+        cs-long = ap length (w .components) ∙ length-sets c 0 (map component-of (search-within (error-at g) n .found)) ∙ lc;
+      }
 
 returns : tie.Need-returns
-returns c =
-    let w = c .before .before .before .before in
-    let v = w .before .before .before .before .before .before .before in
-    let g = v .before .before .before in
-    let a = g .before .before .before .args in (
-      wrote (a .kin) (a .r-06) (a .p-0t) (a .n) (g .new .ensures) angles-list components-list (v .search-1d-bracketed .ensures) angles-long components-long (a .tolerance) (w .write-answers .ensures),
-      counted (a .kin) (a .r-06) (a .p-0t) (a .n) (g .new .ensures) angles-list components-list (v .search-1d-bracketed .ensures) angles-long components-long,
-    )
+returns c = search kept
 
 pub two-parallel-spec : {M : Type 1} → statement M
-two-parallel-spec =
-    tie.close
-    (tie.spec
-    (λ _ _. tt)
-    (λ c. search needs)
-    (λ c. search needs)
-    (λ c κs. search needs)
-    (λ c. search needs)
-    (λ c. search needs)
-    write-answers-requires
-    (λ c. search needs)
-    (λ c. search needs)
-    returns)
+two-parallel-spec = tie.close (tie.spec (λ _ _. tt) (λ c κs. search needs) (λ c. search needs) (λ c. search needs) returns)
