@@ -39,7 +39,7 @@ module _ (limits : List Float) where
   one-then q true a b = refl
   one-then q false a b = refl
 
-  none-allowed : allowed limits [] ≡ []
+  pub none-allowed : allowed limits [] ≡ []
   unfolding allowed
   none-allowed = refl
 

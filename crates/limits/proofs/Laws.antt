@@ -1,15 +1,15 @@
 -- The code's tests in order make the definitions.
 use Prim.Native.Nat.{ℕ, _≤_, _<_}
 use mathlib.Core.Path.{_≡_, refl, sym}
-use mathlib.Core.Bool.{Bool, true, false, not}
+use mathlib.Core.Bool.{Bool, true, false, not, cond, _&&_}
 use mathlib.Core.List.{List}
 use native.Mathlib.Omega.{arith}
-use borrow.Author.Tests.{eq-eqb, ne-eqb, eqb-false, le-leb, lt-leb}
+use borrow.Author.Tests.{eq-eqb, ne-eqb, eqb-true, eqb-false, le-leb, lt-leb}
 use lib.Dec.{eqb}
 use lib.Ieee.{Float, nan, le, lt}
 use lib.ListN.{length, getD}
 use Rattle.answers.specs.declared.Answer.{Answer}
-use Rattle.refusals.specs.Judge.{first-not-finite}
+use Rattle.refusals.specs.Judge.{first-not-finite, all-finite}
 use Rattle.limits.specs.Limits.{between, all6, Twelve-or-none, inside, ordered, refusal-10}
 
 module _ (low q high : Float) where
@@ -80,3 +80,19 @@ module _ (l : List Float) where
       pub out-of-order : t ≡ false → 10 ≡ refusal-10 l
       unfolding refusal-10
       out-of-order n = let o : ordered l ≡ false = cc in rw (ne-eqb (length l) 0 some, eq-eqb (length l) 12 long, le-leb (length l) (first-not-finite l) (omega arith), o)
+
+  -- limits that are not refused are twelve or none
+  by-refusal : (a b : Bool) → _≡_ {A = ℕ} (cond a 0 (cond b 0 10)) 0 → (a ≡ false) → b ≡ true
+  by-refusal a true e f = refl
+  by-refusal true false e f = sym f
+  by-refusal false false e f = let z : _≡_ {A = ℕ} 10 0 = e in absurd (omega arith)
+
+  first-of : (a b : Bool) → a && b ≡ true → a ≡ true
+  first-of true b e = refl
+  first-of false b e = e
+
+  pub twelve-or-none : refusal-10 l ≡ 0 → Twelve-or-none l
+  unfolding refusal-10
+  twelve-or-none e some =
+      let t = by-refusal (eqb (length l) 0) (eqb (length l) 12 && all-finite l && ordered l) e (ne-eqb (length l) 0 some) in
+      eqb-true (length l) 12 (first-of (eqb (length l) 12) _ (first-of (eqb (length l) 12 && all-finite l) _ t))

@@ -1,14 +1,17 @@
 -- What holds of the input where none of refusals 4 to 8 applies.
 use Prim.Native.Nat.{ℕ, _≤_}
-use mathlib.Core.Path.{_≡_, refl}
+use mathlib.Core.Path.{_≡_, refl, sym}
 use mathlib.Core.Bool.{Bool, true, false, cond, _&&_}
 use mathlib.Core.List.{List}
 use native.Mathlib.Omega.{arith}
-use borrow.Author.Tests.{leb-true, eqb-true}
+use borrow.Author.Tests.{leb-true, eqb-true, eqb-false}
 use lib.Dec.{leb, eqb}
 use lib.Ieee.{Float}
 use lib.ListN.{length}
 use Rattle.refusals.specs.Judge.{known, samples-fit, all-finite, judge}
+use Rattle.limits.specs.Limits.{Twelve-or-none, refusal-10}
+use Rattle.limits.proofs.Laws.{twelve-or-none}
+use Rattle.solve.specs.Solve.{refused}
 
 pub record Accepted (family n : ℕ) (arm pose : List Float) : Type 0 where
   pub family-low : 1 ≤ family
@@ -49,3 +52,19 @@ accepted family n arm pose e =
       arm-finite = f .0;
       pose-finite = f .1;
     }
+
+-- the limits of a call that does not refuse, and its numbers
+both-zero : (t : Bool) (x y : ℕ) → eqb x 0 ≡ t → _≡_ {A = ℕ} 0 (cond t y x) → (x ≡ 0) × (0 ≡ y)
+both-zero true x y e z = (eqb-true x 0 e, z)
+both-zero false x y e z = absurd (eqb-false x 0 e (sym z))
+
+module _ (family n : ℕ) (arm pose limits : List Float) (e : 0 ≡ refused family n arm pose limits) where
+  both-accepted : (refusal-10 limits ≡ 0) × (0 ≡ judge family n arm pose)
+  unfolding refused
+  both-accepted = both-zero (eqb (refusal-10 limits) 0) (refusal-10 limits) (judge family n arm pose) refl e
+
+  pub accepted-numbers : 0 ≡ judge family n arm pose
+  accepted-numbers = both-accepted .1
+
+  pub accepted-limits : Twelve-or-none limits
+  accepted-limits = twelve-or-none limits (both-accepted .0)

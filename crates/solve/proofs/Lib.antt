@@ -1,3 +1,1 @@
 pub mod Accepted
-pub mod Lent
-pub mod Demand3

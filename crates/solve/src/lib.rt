@@ -1,75 +1,54 @@
-// The solve call: it judges its input, solves for the family, and gives the refusal and the counts.
-// It equals its definition in specs/ on every input: any family, any n, slices of any length, any
-// numbers.
-use family6::AnswerCounts;
-use kinematics::Kinematics;
-use linear::Matrix3;
-use linear::Vector3;
+// The solve call: it judges its input, solves for the family, writes the answers inside the limits, and
+// gives the refusal and the counts. It equals its definition in specs/ on every input: any family, any
+// n, slices of any length, any numbers.
+use full_list::FullList;
+use full_list::write_allowed;
 use refusals::judge;
 use refusals::refusal_9;
 ghost use mathlib.Core.Path.{_≡_};
-ghost use mathlib.Core.Bool.{true};
-ghost use Prim.Native.Nat.{_≤_};
 ghost use Rattle.answers.specs.Written.{room, written, flagged};
-ghost use Rattle.refusals.specs.Judge.{samples-fit};
-ghost use Rattle.solve.specs.Solve.{by-family, answers, solve, Solves};
+ghost use Rattle.refusals.specs.Judge.{judge};
+ghost use Rattle.full_list.specs.Listed.{Keeps, Room};
+ghost use Rattle.solve.specs.Solve.{refused, of-numbers, answers, solve};
 
 // The tolerance of subproblem1's flag.
 const TOLERANCE: f64 = 1e-6;
 
-// What a call gives: a refusal (0 is none), the number of answers in the full list, and the number
-// of evaluations of the search error.
+// What a call gives: a refusal (0 is none), the number of answers inside the limits, and the
+// number of evaluations of the search error.
 pub struct Solved {
     pub refusal: u64,
     pub answers: usize,
     pub evals: u64,
 }
 
-fn without_search(answers: usize) -> AnswerCounts
-    ensures { λ r. ⌜ (r .answers ≡ answers) × (r .evals ≡ 0) ⌝ }
+// Refusals 10 and 4 to 8, the first that applies, or 0.
+fn refused(family: u64, n: u64, arm: &[f64], pose: &[f64], limits: &[f64]) -> u64
+    ensures { λ r. ⌜ r ≡ refused family n (now (arm .entry)) (now (pose .entry)) (now (limits .entry)) ⌝ }
 {
-    AnswerCounts {
-        answers: answers,
-        evals: 0,
+    let ten = limits::refusal_10(limits);
+    if ten != 0 {
+        return ten;
     }
+    judge(family, n, arm, pose)
 }
 
-// The family's own solver. (n is for the sixth alone.)
-fn by_family(
+// The full list of numbers that are not refused.
+fn found(
     family: u64,
     n: u64,
-    r: Matrix3,
-    p: Vector3,
-    kin: Kinematics,
-    tolerance: f64,
-    angles: &mut [f64],
-    flags: &mut [u8],
-) -> AnswerCounts
-    requires { ⌜ (1 ≤ family) × (family ≤ 6) × (samples-fit family n ≡ true) ⌝ }
-    ensures { λ f. ⌜ Solves (by-family family n r p kin tolerance) (now (angles .entry)) (now (flags .entry)) (now (angles .exit)) (now (flags .exit)) f ⌝ }
+    arm: &[f64],
+    pose: &[f64],
+    numbers: &mut [f64],
+    bytes: &mut [u8],
+) -> FullList
+    requires { ⌜ (0 ≡ judge family n (now arm) (now pose)) × Room family (now numbers) (now bytes) ⌝ }
+    ensures { λ l. ⌜ Keeps (of-numbers family n (now (arm .entry)) (now (pose .entry))) l (now (numbers .exit)) (now (bytes .exit)) ⌝ }
 {
-    match family {
-        1 => without_search(families::spherical_two_parallel(r, p, kin, tolerance, angles, flags)),
-        2 => without_search(families::spherical_two_intersecting(
-            r,
-            p,
-            kin,
-            tolerance,
-            angles,
-            flags,
-        )),
-        3 => without_search(families::spherical(r, p, kin, tolerance, angles, flags)),
-        4 => without_search(families::three_parallel_two_intersecting(
-            r,
-            p,
-            kin,
-            tolerance,
-            angles,
-            flags,
-        )),
-        5 => without_search(families::three_parallel(r, p, kin, tolerance, angles, flags)),
-        _ => family6::two_parallel(r, p, kin, tolerance, n as usize, angles, flags),
-    }
+    let kin = kinematics::from_numbers(arm);
+    let r = kinematics::pose_rotation(pose);
+    let p = kinematics::pose_place(pose);
+    full_list::find(family, n, r, p, kin, TOLERANCE, numbers, bytes)
 }
 
 pub fn solve(
@@ -77,16 +56,15 @@ pub fn solve(
     n: u64,
     arm: &[f64],
     pose: &[f64],
+    limits: &[f64],
     angles: &mut [f64],
     flags: &mut [u8],
 ) -> Solved
-    ensures result { λ r. ⌜ r ≡ solve family n (now (arm .entry)) (now (pose .entry)) (room (now (angles .entry)) (now (flags .entry))) ⌝ }
-    ensures angles { λ _. ⌜ now (angles .exit) ≡ written (answers family n (now (arm .entry)) (now (pose .entry))) (now (angles .entry)) (now (flags .entry)) ⌝ }
-    ensures flags { λ _. ⌜ now (flags .exit) ≡ flagged (answers family n (now (arm .entry)) (now (pose .entry))) (now (angles .entry)) (now (flags .entry)) ⌝ }
+    ensures result { λ r. ⌜ r ≡ solve family n (now (arm .entry)) (now (pose .entry)) (now (limits .entry)) (room (now (angles .entry)) (now (flags .entry))) ⌝ }
+    ensures angles { λ _. ⌜ now (angles .exit) ≡ written (answers family n (now (arm .entry)) (now (pose .entry)) (now (limits .entry))) (now (angles .entry)) (now (flags .entry)) ⌝ }
+    ensures flags { λ _. ⌜ now (flags .exit) ≡ flagged (answers family n (now (arm .entry)) (now (pose .entry)) (now (limits .entry))) (now (angles .entry)) (now (flags .entry)) ⌝ }
 {
-    let sixes = angles.len() / 6;
-    let bytes = flags.len();
-    let refused = judge(family, n, arm, pose);
+    let refused = refused(family, n, arm, pose, limits);
     if refused != 0 {
         return Solved {
             refusal: refused,
@@ -94,13 +72,26 @@ pub fn solve(
             evals: 0,
         };
     }
-    let kin = kinematics::from_numbers(arm);
-    let r = kinematics::pose_rotation(pose);
-    let p = kinematics::pose_place(pose);
-    let found = by_family(family, n, r, p, kin, TOLERANCE, angles, flags);
+    let sixes = angles.len() / 6;
+    let bytes = flags.len();
+    if family == 6 {
+        let mut qs = [0.0; 17600];
+        let mut cs = [0u8; 17600];
+        let list = found(family, n, arm, pose, &mut qs, &mut cs);
+        let count = write_allowed(list, &qs, &cs, limits, angles, flags);
+        return Solved {
+            refusal: refusal_9(count, sixes, bytes),
+            answers: count,
+            evals: list.evals,
+        };
+    }
+    let mut eight = [0.0; 48];
+    let mut eight_flags = [0u8; 8];
+    let list = found(family, n, arm, pose, &mut eight, &mut eight_flags);
+    let count = write_allowed(list, &eight, &eight_flags, limits, angles, flags);
     Solved {
-        refusal: refusal_9(found.answers, sixes, bytes),
-        answers: found.answers,
-        evals: found.evals,
+        refusal: refusal_9(count, sixes, bytes),
+        answers: count,
+        evals: list.evals,
     }
 }
