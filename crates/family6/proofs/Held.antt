@@ -1,5 +1,5 @@
 -- What the two lists hold after the search: its pairs, each of them with an answer of subproblem 6. Assumes nothing.
-use mathlib.Core.Path.{_≡_, refl, sym, _∙_, ap, subst}
+use mathlib.Core.Path.{_≡_, refl, sym, _∙_, ap}
 use mathlib.Core.Bool.{Bool, true, false, cond}
 use mathlib.Core.List.{List, [], _∷_, _++_, map}
 use Prim.Native.Nat.{ℕ, zero, suc, _+_, _*_, _≤_, _<_}
@@ -20,16 +20,17 @@ use Rattle.search_definition.specs.Search.{search-1d-bracketed}
 use Rattle.search_definition.specs.Demand.{Demand3, blank}
 use Rattle.search_definition.proofs.Demand.{demand-3}
 use Rattle.search_error.specs.Error.{error-i, t64-count}
-use Rattle.search_error.specs.Fixed.{fixed, given-q1, t64, error-at}
+use Rattle.search_error.specs.Fixed.{fixed, error-at}
 use Rattle.search_error.specs.declared.Fixed.{Fixed}
-use Rattle.search_error.proofs.SameError.{error-at-same, t64-same}
+use Rattle.search_error.proofs.SameError.{error-at-same}
 use Rattle.search_error.proofs.Strict.{strict}
 use Rattle.search_pairs.specs.State.{angle-of, component-of}
 use Rattle.search.specs.Searched.{Searched, search-within}
 use Rattle.search.specs.Demand.{two-parallel-search}
 use Rattle.search_pairs.specs.declared.SearchCounts.{SearchCounts}
 use Rattle.search.proofs.Listed.{same-error}
-use Rattle.family6_answers.specs.Pairs.{pair, zipped, first-pairs, Answered, AllAnswered}
+use Rattle.family6_answers.specs.Pairs.{pair, zipped, first-pairs}
+use Rattle.family6.specs.Kept.{Usable}
 
 -- ---- lists of pairs
 zipped-map : (l : List Entry) → zipped (map angle-of l) (map component-of l) ≡ map pair-of l
@@ -104,11 +105,10 @@ module _ (kin : Kinematics) (r-06 : Matrix) (p-0t : Vector3) (n : ℕ) where
     pub pairs-fit : r .pairs ≤ 17600
     pairs-fit = omega (arith, fits, searched .pairs)
 
-    pub all-answered : AllAnswered g (r .pairs) q′ c′
-    all-answered =
-        subst (λ (x : Fixed). AllAnswered x (r .pairs) q′ c′) (sym e)
-        (λ j h. rw (t64-same kin r-06 p-0t, angle-held (two-parallel-search kin r-06 p-0t n) q c searched room room′ j h, component-held (two-parallel-search kin r-06 p-0t n) q c searched room room′ j h)
-        (usable j (omega (arith, searched .pairs))))
+    pub all-usable : Usable r-06 p-0t kin (r .pairs) q′ c′
+    all-usable j h =
+        rw (angle-held (two-parallel-search kin r-06 p-0t n) q c searched room room′ j h, component-held (two-parallel-search kin r-06 p-0t n) q c searched room room′ j h)
+        (usable j (omega (arith, searched .pairs)))
 
     pub search-held : first-pairs (r .pairs) q′ c′ ≡ pairs (two-parallel-search kin r-06 p-0t n)
     search-held = held (two-parallel-search kin r-06 p-0t n) q c searched room room′

@@ -1,8 +1,8 @@
 -- The pairs (q1, i) that two lists hold, angles and components.
 use mathlib.Core.List.{List, [], _∷_}
 use Prim.Native.Nat.{ℕ, _<_}
-use lib.Ieee.{Float, nan}
-use lib.ListN.{take, getD}
+use lib.Ieee.{Float}
+use lib.ListN.{take}
 use Rattle.solutionset.specs.PairSet4.{size}
 use Rattle.search_definition.specs.Found.{SearchPair}
 use Rattle.search_error.specs.Fixed.{given-q1, t64}
@@ -23,7 +23,3 @@ first-pairs m qs cs = zipped (take m qs) (take m cs)
 -- component i is below the number of subproblem 6's answers at q1
 abbrev pub Answered : Fixed → Float → ℕ → Type 0
 Answered g q1 i = i < size (t64 g (given-q1 g q1))
-
--- and that of each of the first m
-abbrev pub AllAnswered : Fixed → ℕ → List Float → List ℕ → Type 0
-AllAnswered g m qs cs = (j : ℕ) → j < m → Answered g (getD qs j nan) (getD cs j 0)

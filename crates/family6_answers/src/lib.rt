@@ -8,9 +8,6 @@ use search_error::GivenQ1;
 use solutionset::Pair;
 use subproblems::Solved1;
 ghost use mathlib.Core.Path.{_≡_};
-ghost use Prim.Native.Nat.{_<_};
-ghost use lib.Ieee.{nan};
-ghost use lib.ListN.{length, getD};
 ghost use Rattle.float.specs.Num.{_⊖_};
 ghost use Rattle.float.specs.Wrap.{wrap-to-pi};
 ghost use Rattle.family6_answers.specs.FixedAnswer.{t23, q2, q5, answer, answer-at};
@@ -76,25 +73,11 @@ fn answer(fixed: Fixed, tolerance: f64, q1: f64, t: GivenQ1, a: Pair) -> Answer
 }
 
 // The answer of the pair (q1, i). The Rust's index of t64 is in bounds.
-fn answer_at(fixed: Fixed, tolerance: f64, q1: f64, i: usize) -> Answer
+pub fn answer_at(fixed: Fixed, tolerance: f64, q1: f64, i: usize) -> Answer
     requires { ⌜ Answered fixed q1 i ⌝ }
     ensures { λ r. ⌜ r ≡ answer-at fixed tolerance (pair q1 i) ⌝ }
 {
     let t = fixed.given_q1(q1);
     let t64 = fixed.t64(t);
     answer(fixed, tolerance, q1, t, t64.at(i))
-}
-
-fn component(i: u8) -> usize
-    ensures { λ r. ⌜ r ≡ i ⌝ }
-{
-    i as usize
-}
-
-// The answer of pair k of those that two lists hold.
-pub fn read_pair(fixed: Fixed, tolerance: f64, qs: &[f64], cs: &[u8], k: usize) -> Answer
-    requires { ⌜ (k < length (now qs)) × (k < length (now cs)) × Answered fixed (getD (now qs) k nan) (getD (now cs) k 0) ⌝ }
-    ensures { λ r. ⌜ r ≡ answer-at fixed tolerance (pair (getD (now (qs .entry)) k nan) (getD (now (cs .entry)) k 0)) ⌝ }
-{
-    answer_at(fixed, tolerance, qs[k], component(cs[k]))
 }

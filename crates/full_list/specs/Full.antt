@@ -5,6 +5,9 @@ use mathlib.Core.Bool.{cond}
 use mathlib.Core.List.{List}
 use lib.Dec.{eqb}
 use lib.Ieee.{Float}
+use Rattle.float.specs.Num.{millionth}
+use Rattle.kinematics.specs.Kinematics.{from-numbers}
+use Rattle.kinematics.specs.Pose.{pose-rotation, pose-place}
 use Rattle.linear.specs.Matrix.{Matrix}
 use Rattle.linear.specs.declared.vector.Vector3.{Vector3}
 use Rattle.kinematics.specs.declared.Kinematics.{Kinematics}
@@ -25,20 +28,27 @@ pub record Full : Type 0 where
 abbrev pub no-search : List Answer → Full
 no-search l = record { answers = l; evals = 0 }
 
--- family 6 does
-abbrev pub searched : Matrix → Vector3 → Kinematics → Float → ℕ → Full
-searched r p kin tolerance n = record { answers = two-parallel r p kin tolerance n; evals = evaluations r p kin n }
+unfoldable pub without-search : ℕ → Matrix → Vector3 → Kinematics → Float → List Answer
+without-search family r p kin tolerance =
+    cond (eqb family 1)
+    (spherical-two-parallel r p kin tolerance)
+    (cond (eqb family 2)
+    (spherical-two-intersecting r p kin tolerance)
+    (cond (eqb family 3)
+    (spherical r p kin tolerance)
+    (cond (eqb family 4) (three-parallel-two-intersecting r p kin tolerance) (three-parallel r p kin tolerance))))
 
+-- family 6 does
 unfoldable pub by-family : ℕ → ℕ → Matrix → Vector3 → Kinematics → Float → Full
 by-family family n r p kin tolerance =
-    cond (eqb family 1)
-    (no-search (spherical-two-parallel r p kin tolerance))
-    (cond (eqb family 2)
-    (no-search (spherical-two-intersecting r p kin tolerance))
-    (cond (eqb family 3)
-    (no-search (spherical r p kin tolerance))
-    (cond (eqb family 4)
-    (no-search (three-parallel-two-intersecting r p kin tolerance))
-    (cond (eqb family 5)
-    (no-search (three-parallel r p kin tolerance))
-    (searched r p kin tolerance n)))))
+    cond (eqb family 6)
+    (record { answers = two-parallel r p kin tolerance n; evals = evaluations r p kin n })
+    (no-search (without-search family r p kin tolerance))
+
+-- the 1e-6 by which subproblem1 flags
+abbrev pub tolerance : Float
+tolerance = millionth
+
+-- of the numbers of an arm and a pose
+abbrev pub of-numbers : ℕ → ℕ → List Float → List Float → Full
+of-numbers family n arm pose = by-family family n (pose-rotation pose) (pose-place pose) (from-numbers arm) tolerance

@@ -1,139 +1,125 @@
-// The full list of an arm and a pose, kept in two lent lists and read answer by answer. Families 1 to
-// 5 write their answers there; family 6 leaves the search's pairs, and an answer is made from its pair
-// when it is read. What a call does with the answers is its own affair.
+// The full list of an arm and a pose, kept in two lists and read answer by answer. Families 1 to 5 write
+// their answers there; family 6 leaves the search's pairs, and an answer is made from its pair when it is
+// read. What a call does with the answers is its own affair.
 use answers::Answer;
 use answers::rest;
-use family6_answers::read_pair;
-use kinematics::Kinematics;
-use linear::Matrix3;
-use linear::Vector3;
-use search_error::Fixed;
+use kinematics::from_numbers;
+use kinematics::pose_place;
+use kinematics::pose_rotation;
 ghost use mathlib.Core.Path.{_≡_};
 ghost use mathlib.Core.Bool.{false};
 ghost use Prim.Native.Nat.{_≤_, _<_};
+ghost use lib.Ieee.{nan};
 ghost use lib.ListN.{length, getD};
 ghost use Rattle.answers.specs.Written.{Wrote};
+ghost use Rattle.kinematics.specs.Kinematics.{from-numbers};
+ghost use Rattle.kinematics.specs.Pose.{pose-rotation, pose-place};
+ghost use Rattle.search_error.specs.Error.{t64-count};
+ghost use Rattle.family6_answers.specs.Pairs.{pair};
+ghost use Rattle.family6.specs.TwoParallel.{answer-of};
 ghost use Rattle.limits.specs.Limits.{Twelve-or-none, allowed};
-ghost use Rattle.full_list.specs.Full.{searched, by-family};
-ghost use Rattle.full_list.specs.Listed.{listed, blank, Sound, Keeps, Room};
+ghost use Rattle.full_list.specs.Full.{without-search, tolerance, of-numbers};
+ghost use Rattle.full_list.specs.Listed.{listed, blank, Sound, Keeps};
 
-// How many answers there are and how often the search's error was evaluated. Where it was, the answers
-// are kept as the search's pairs (q1, i), and `fixed` and `tolerance` are what family 6 makes them from;
-// else as six angles and a byte each, and these two play no part.
+// The tolerance of subproblem1's flag.
+const TOLERANCE: f64 = 1e-6;
+
+// How many answers there are, how often the search's error was evaluated, and whether the answers are
+// kept as the search's pairs (q1, i); else as six angles and a byte each.
 pub struct FullList {
     pub answers: usize,
     pub evals: u64,
     pub searched: bool,
-    pub fixed: Fixed,
-    pub tolerance: f64,
 }
 
-const ORIGIN: Vector3 = Vector3 {
-    x: 0.0,
-    y: 0.0,
-    z: 0.0,
-};
-
-// Nothing is computed once in families 1 to 5.
-fn nothing_fixed(kin: Kinematics) -> Fixed {
-    Fixed {
-        kin: kin,
-        u1: ORIGIN,
-        u2: ORIGIN,
-        u4: ORIGIN,
-        u6: ORIGIN,
-        minus_h5: ORIGIN,
-        minus_h6: ORIGIN,
-        row1: [0.0; 3],
-        row2: [0.0; 3],
-        row3: [0.0; 3],
-        p_16: ORIGIN,
-        l2: 0.0,
+// Families 1 to 5: writes the answers to two lists, where they fit both, and counts them.
+pub fn without_search(
+    family: u64,
+    arm: &[f64],
+    pose: &[f64],
+    angles: &mut [f64],
+    flags: &mut [u8],
+) -> usize
+    requires { ⌜ (1 ≤ family) × (family ≤ 5) × (length (now arm) ≡ 39) × (length (now pose) ≡ 12) ⌝ }
+    ensures { λ k. ⌜ Wrote (without-search family (pose-rotation (now (pose .entry))) (pose-place (now (pose .entry))) (from-numbers (now (arm .entry))) tolerance) (now (angles .entry)) (now (flags .entry)) (now (angles .exit)) (now (flags .exit)) k ⌝ }
+{
+    let kin = from_numbers(arm);
+    let r = pose_rotation(pose);
+    let p = pose_place(pose);
+    match family {
+        1 => families::spherical_two_parallel(r, p, kin, TOLERANCE, angles, flags),
+        2 => families::spherical_two_intersecting(r, p, kin, TOLERANCE, angles, flags),
+        3 => families::spherical(r, p, kin, TOLERANCE, angles, flags),
+        4 => families::three_parallel_two_intersecting(r, p, kin, TOLERANCE, angles, flags),
+        _ => families::three_parallel(r, p, kin, TOLERANCE, angles, flags),
     }
 }
 
-fn without_search(answers: usize, kin: Kinematics) -> FullList
-    ensures { λ r. ⌜ (r .answers ≡ answers) × (r .evals ≡ 0) × (r .searched ≡ false) ⌝ }
+// The same as a full list, in lists with room for all: eight.
+pub fn list_of_eight(
+    family: u64,
+    arm: &[f64],
+    pose: &[f64],
+    angles: &mut [f64],
+    flags: &mut [u8],
+) -> FullList
+    requires { ⌜ (1 ≤ family) × (family ≤ 5) × (length (now arm) ≡ 39) × (length (now pose) ≡ 12) × (length (now angles) ≡ 48) × (length (now flags) ≡ 8) ⌝ }
+    ensures { λ l. ⌜ Keeps (of-numbers family 0 (now (arm .entry)) (now (pose .entry))) l (now (arm .entry)) (now (pose .entry)) (now (angles .exit)) (now (flags .exit)) ⌝ }
 {
     FullList {
-        answers: answers,
+        answers: without_search(family, arm, pose, angles, flags),
         evals: 0,
         searched: false,
-        fixed: nothing_fixed(kin),
-        tolerance: 0.0,
     }
 }
 
-fn search(
-    r: Matrix3,
-    p: Vector3,
-    kin: Kinematics,
-    tolerance: f64,
-    n: usize,
-    numbers: &mut [f64],
-    bytes: &mut [u8],
-) -> FullList
-    requires { ⌜ (length (now numbers) ≡ 17600) × (length (now bytes) ≡ 17600) ⌝ }
-    ensures { λ l. ⌜ Keeps (searched r p kin tolerance n) l (now (numbers .exit)) (now (bytes .exit)) ⌝ }
+// Family 6, by a search over n + 1 samples: the pairs, in lists with room for all.
+pub fn search(n: usize, arm: &[f64], pose: &[f64], qs: &mut [f64], cs: &mut [u8]) -> FullList
+    requires { ⌜ (length (now arm) ≡ 39) × (length (now pose) ≡ 12) × (length (now qs) ≡ 17600) × (length (now cs) ≡ 17600) ⌝ }
+    ensures { λ l. ⌜ Keeps (of-numbers 6 n (now (arm .entry)) (now (pose .entry))) l (now (arm .entry)) (now (pose .entry)) (now (qs .exit)) (now (cs .exit)) ⌝ }
 {
-    let s = family6::two_parallel(r, p, kin, n, numbers, bytes);
-    let fixed = s.fixed;
+    let kin = from_numbers(arm);
+    let r = pose_rotation(pose);
+    let p = pose_place(pose);
+    let s = family6::two_parallel(r, p, kin, n, qs, cs);
     FullList {
         answers: s.pairs,
         evals: s.evals,
         searched: true,
-        fixed: fixed,
-        tolerance: tolerance,
     }
 }
 
-// The family's own solver. (n is for the sixth alone.)
-pub fn find(
-    family: u64,
-    n: u64,
-    r: Matrix3,
-    p: Vector3,
-    kin: Kinematics,
-    tolerance: f64,
-    numbers: &mut [f64],
-    bytes: &mut [u8],
-) -> FullList
-    requires { ⌜ (1 ≤ family) × (family ≤ 6) × Room family (now numbers) (now bytes) ⌝ }
-    ensures { λ l. ⌜ Keeps (by-family family n r p kin tolerance) l (now (numbers .exit)) (now (bytes .exit)) ⌝ }
+fn component(i: u8) -> usize
+    ensures { λ r. ⌜ r ≡ i ⌝ }
 {
-    match family {
-        1 => without_search(
-            families::spherical_two_parallel(r, p, kin, tolerance, numbers, bytes),
-            kin,
-        ),
-        2 => without_search(
-            families::spherical_two_intersecting(r, p, kin, tolerance, numbers, bytes),
-            kin,
-        ),
-        3 => without_search(
-            families::spherical(r, p, kin, tolerance, numbers, bytes),
-            kin,
-        ),
-        4 => without_search(
-            families::three_parallel_two_intersecting(r, p, kin, tolerance, numbers, bytes),
-            kin,
-        ),
-        5 => without_search(
-            families::three_parallel(r, p, kin, tolerance, numbers, bytes),
-            kin,
-        ),
-        _ => search(r, p, kin, tolerance, n as usize, numbers, bytes),
-    }
+    i as usize
+}
+
+// The answer of the pair (q1, i) of an arm and a pose.
+fn answer_of(arm: &[f64], pose: &[f64], q1: f64, i: u8) -> Answer
+    requires { ⌜ (length (now arm) ≡ 39) × (length (now pose) ≡ 12) × (i < t64-count (from-numbers (now arm)) (pose-rotation (now pose)) (pose-place (now pose)) q1) ⌝ }
+    ensures { λ r. ⌜ r ≡ answer-of (pose-rotation (now (pose .entry))) (pose-place (now (pose .entry))) (from-numbers (now (arm .entry))) tolerance (pair q1 i) ⌝ }
+{
+    let kin = from_numbers(arm);
+    let r = pose_rotation(pose);
+    let p = pose_place(pose);
+    family6::answer_of(r, p, kin, TOLERANCE, q1, component(i))
 }
 
 // Answer k.
-pub fn answer(list: FullList, numbers: &[f64], bytes: &[u8], k: usize) -> Answer
-    requires { ⌜ Sound list (now numbers) (now bytes) × (k < list .answers) ⌝ }
-    ensures { λ r. ⌜ r ≡ getD (listed list (now (numbers .entry)) (now (bytes .entry))) k blank ⌝ }
+pub fn answer(
+    list: FullList,
+    arm: &[f64],
+    pose: &[f64],
+    numbers: &[f64],
+    bytes: &[u8],
+    k: usize,
+) -> Answer
+    requires { ⌜ Sound list (now arm) (now pose) (now numbers) (now bytes) × (k < list .answers) ⌝ }
+    ensures { λ r. ⌜ r ≡ getD (listed list (now (arm .entry)) (now (pose .entry)) (now (numbers .entry)) (now (bytes .entry))) k blank ⌝ }
 {
     if list.searched {
-        let fixed = list.fixed;
-        return read_pair(fixed, list.tolerance, numbers, bytes, k);
+        return answer_of(arm, pose, numbers[k], bytes[k]);
     }
     answers::read(numbers, bytes, k)
 }
@@ -141,19 +127,21 @@ pub fn answer(list: FullList, numbers: &[f64], bytes: &[u8], k: usize) -> Answer
 // Writes the answers that are inside the limits, where they fit both lists, and counts them.
 pub fn write_allowed(
     list: FullList,
+    arm: &[f64],
+    pose: &[f64],
     numbers: &[f64],
     bytes: &[u8],
     limits: &[f64],
     angles: &mut [f64],
     flags: &mut [u8],
 ) -> usize
-    requires { ⌜ Sound list (now numbers) (now bytes) × Twelve-or-none (now limits) ⌝ }
-    ensures { λ r. ⌜ Wrote (allowed (now (limits .entry)) (listed list (now (numbers .entry)) (now (bytes .entry)))) (now (angles .entry)) (now (flags .entry)) (now (angles .exit)) (now (flags .exit)) r ⌝ }
+    requires { ⌜ Sound list (now arm) (now pose) (now numbers) (now bytes) × Twelve-or-none (now limits) ⌝ }
+    ensures { λ r. ⌜ Wrote (allowed (now (limits .entry)) (listed list (now (arm .entry)) (now (pose .entry)) (now (numbers .entry)) (now (bytes .entry)))) (now (angles .entry)) (now (flags .entry)) (now (angles .exit)) (now (flags .exit)) r ⌝ }
 {
     let mut count = 0;
     let mut k = 0;
     while k < list.answers {
-        let q = answer(list, numbers, bytes, k);
+        let q = answer(list, arm, pose, numbers, bytes, k);
         let at = rest(6 * count, angles.len());
         let on = rest(count, flags.len());
         count += limits::put_allowed(limits, q, &mut angles[at..], &mut flags[on..]);

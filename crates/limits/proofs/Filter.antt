@@ -16,6 +16,11 @@ unfolding allowed inside
 unlimited [] = refl
 unlimited (q ∷ all) = ap (λ (l : List Answer). q ∷ l) (unlimited all)
 
+-- a list of no numbers is no limits
+pub no-limits : (limits : List Float) → length limits ≡ 0 → (all : List Answer) → allowed limits all ≡ all
+no-limits [] e all = unlimited all
+no-limits (x ∷ limits) e all = let z : suc (length limits) ≡ 0 = e in absurd (omega arith)
+
 module _ (limits : List Float) where
   choice : (q : Answer) (all : List Answer) (t : Bool) → inside limits q ≡ t → Filtered limits all (allowed limits all)
       → Filtered limits (q ∷ all) (cond t (q ∷ allowed limits all) (allowed limits all))

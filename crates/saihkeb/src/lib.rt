@@ -1,5 +1,5 @@
-// The library that a controller links: the solve call, the block call and forward kinematics for C
-// and Rust (include/saihkeb.h is its manual). No call asks anything of its numbers or of its lists'
+// The library that a controller links: the solve call, the block call, the limits block and forward
+// kinematics for C and Rust (include/saihkeb.h is its manual). No call asks anything of its numbers or of its lists'
 // lengths: each equals its definition on every input. A list is lent, so its pointer is never null;
 // the header's functions of the short names take a null pointer too.
 use solve::Solved;
@@ -8,6 +8,7 @@ ghost use lib.Seq.{sets};
 ghost use Rattle.answers.specs.Written.{room, written, flagged};
 ghost use Rattle.solve.specs.Solve.{answers, solve};
 ghost use Rattle.solve_block.specs.SolveBlock.{solve-block, block-answers};
+ghost use Rattle.limits_block.specs.LimitsBlock.{limits-refusal, in-force};
 ghost use Rattle.forward.specs.Forward.{forward-refusal, forward-pose};
 ghost use Rattle.saihkeb.specs.Library.{counts-of};
 
@@ -21,40 +22,57 @@ fn report(s: Solved, counts: &mut [u64; 2]) -> u64
     s.refusal
 }
 
-// Document 01's solve call. The refusal is the result; the number of answers in the full list and
-// the number of evaluations go to `counts`.
+// Document 01's solve call, within joint limits: twelve numbers or none. The refusal is the result; the
+// number of answers inside the limits and the number of evaluations go to `counts`.
 #[no_mangle]
 pub extern "C" fn saihkeb_solve_lent(
     family: u64,
     n: u64,
     arm: &[f64],
     pose: &[f64],
+    limits: &[f64],
     angles: &mut [f64],
     flags: &mut [u8],
     counts: &mut [u64; 2],
 ) -> u64
-    ensures result { λ r. ⌜ r ≡ solve family n (now (arm .entry)) (now (pose .entry)) (room (now (angles .entry)) (now (flags .entry))) .refusal ⌝ }
-    ensures angles { λ _. ⌜ now (angles .exit) ≡ written (answers family n (now (arm .entry)) (now (pose .entry))) (now (angles .entry)) (now (flags .entry)) ⌝ }
-    ensures flags { λ _. ⌜ now (flags .exit) ≡ flagged (answers family n (now (arm .entry)) (now (pose .entry))) (now (angles .entry)) (now (flags .entry)) ⌝ }
-    ensures counts { λ _. ⌜ now (counts .exit) ≡ sets (now (counts .entry)) 0 (counts-of (solve family n (now (arm .entry)) (now (pose .entry)) (room (now (angles .entry)) (now (flags .entry))))) ⌝ }
+    ensures result { λ r. ⌜ r ≡ solve family n (now (arm .entry)) (now (pose .entry)) (now (limits .entry)) (room (now (angles .entry)) (now (flags .entry))) .refusal ⌝ }
+    ensures angles { λ _. ⌜ now (angles .exit) ≡ written (answers family n (now (arm .entry)) (now (pose .entry)) (now (limits .entry))) (now (angles .entry)) (now (flags .entry)) ⌝ }
+    ensures flags { λ _. ⌜ now (flags .exit) ≡ flagged (answers family n (now (arm .entry)) (now (pose .entry)) (now (limits .entry))) (now (angles .entry)) (now (flags .entry)) ⌝ }
+    ensures counts { λ _. ⌜ now (counts .exit) ≡ sets (now (counts .entry)) 0 (counts-of (solve family n (now (arm .entry)) (now (pose .entry)) (now (limits .entry)) (room (now (angles .entry)) (now (flags .entry))))) ⌝ }
 {
-    report(solve::solve(family, n, arm, pose, angles, flags), counts)
+    report(
+        solve::solve(family, n, arm, pose, limits, angles, flags),
+        counts,
+    )
 }
 
 // The same for one block of 512 bytes, which is judged first: refusals 1 to 3.
 #[no_mangle]
 pub extern "C" fn saihkeb_solve_block_lent(
     block: &[u8],
+    limits: &[f64],
     angles: &mut [f64],
     flags: &mut [u8],
     counts: &mut [u64; 2],
 ) -> u64
-    ensures result { λ r. ⌜ r ≡ solve-block (now (block .entry)) (room (now (angles .entry)) (now (flags .entry))) .refusal ⌝ }
-    ensures angles { λ _. ⌜ now (angles .exit) ≡ written (block-answers (now (block .entry))) (now (angles .entry)) (now (flags .entry)) ⌝ }
-    ensures flags { λ _. ⌜ now (flags .exit) ≡ flagged (block-answers (now (block .entry))) (now (angles .entry)) (now (flags .entry)) ⌝ }
-    ensures counts { λ _. ⌜ now (counts .exit) ≡ sets (now (counts .entry)) 0 (counts-of (solve-block (now (block .entry)) (room (now (angles .entry)) (now (flags .entry))))) ⌝ }
+    ensures result { λ r. ⌜ r ≡ solve-block (now (block .entry)) (now (limits .entry)) (room (now (angles .entry)) (now (flags .entry))) .refusal ⌝ }
+    ensures angles { λ _. ⌜ now (angles .exit) ≡ written (block-answers (now (block .entry)) (now (limits .entry))) (now (angles .entry)) (now (flags .entry)) ⌝ }
+    ensures flags { λ _. ⌜ now (flags .exit) ≡ flagged (block-answers (now (block .entry)) (now (limits .entry))) (now (angles .entry)) (now (flags .entry)) ⌝ }
+    ensures counts { λ _. ⌜ now (counts .exit) ≡ sets (now (counts .entry)) 0 (counts-of (solve-block (now (block .entry)) (now (limits .entry)) (room (now (angles .entry)) (now (flags .entry))))) ⌝ }
 {
-    report(solve_block::solve_block(block, angles, flags), counts)
+    report(
+        solve_block::solve_block(block, limits, angles, flags),
+        counts,
+    )
+}
+
+// The limits of a limits block: twelve numbers, which stay as they came where the block is refused.
+#[no_mangle]
+pub extern "C" fn saihkeb_limits_block_lent(block: &[u8], limits: &mut [f64; 12]) -> u64
+    ensures result { λ r. ⌜ r ≡ limits-refusal (now (block .entry)) ⌝ }
+    ensures limits { λ _. ⌜ now (limits .exit) ≡ in-force (now (block .entry)) (now (limits .entry)) ⌝ }
+{
+    limits_block::limits_block(block, limits)
 }
 
 // The pose of six angles. A list of another length than 39, 6 or 12 is refused, and the pose's list

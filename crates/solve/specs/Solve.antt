@@ -6,27 +6,16 @@ use mathlib.Core.List.{List, []}
 use lib.Dec.{eqb}
 use lib.Ieee.{Float}
 use lib.ListN.{length}
-use Rattle.float.specs.Num.{millionth}
-use Rattle.kinematics.specs.Kinematics.{from-numbers}
-use Rattle.kinematics.specs.Pose.{pose-rotation, pose-place}
 use Rattle.answers.specs.declared.Answer.{Answer}
 use Rattle.refusals.specs.Judge.{judge, refusal-9}
 use Rattle.limits.specs.Limits.{allowed, refusal-10}
-use Rattle.full_list.specs.Full.{Full, no-search, by-family}
+use Rattle.full_list.specs.Full.{Full, no-search, of-numbers}
 use Rattle.solve.specs.declared.Solved.{Solved}
-
--- the 1e-6 by which subproblem1 flags
-abbrev pub tolerance : Float
-tolerance = millionth
 
 -- refusals 10 and 4 to 8, the first that applies, or 0. Document 02, request 1: "Refused: 10, limits lent to a call that are neither twelve numbers nor none, a limit that
 -- isn't finite or a low above its high, checked after 3 and before 4"
 unfoldable pub refused : ℕ → ℕ → List Float → List Float → List Float → ℕ
 refused family n arm pose limits = let ten = refusal-10 limits in cond (eqb ten 0) (judge family n arm pose) ten
-
--- the full list of numbers that are not refused
-abbrev pub of-numbers : ℕ → ℕ → List Float → List Float → Full
-of-numbers family n arm pose = by-family family n (pose-rotation pose) (pose-place pose) (from-numbers arm) tolerance
 
 -- what a call solves: nothing where it refuses
 unfoldable pub full : ℕ → ℕ → List Float → List Float → List Float → Full

@@ -1,18 +1,14 @@
 // The solve call: it judges its input, solves for the family, writes the answers inside the limits, and
 // gives the refusal and the counts. It equals its definition in specs/ on every input: any family, any
 // n, slices of any length, any numbers.
-use full_list::FullList;
 use full_list::write_allowed;
 use refusals::judge;
 use refusals::refusal_9;
 ghost use mathlib.Core.Path.{_≡_};
+ghost use Prim.Native.Nat.{min};
 ghost use Rattle.answers.specs.Written.{room, written, flagged};
-ghost use Rattle.refusals.specs.Judge.{judge};
-ghost use Rattle.full_list.specs.Listed.{Keeps, Room};
-ghost use Rattle.solve.specs.Solve.{refused, of-numbers, answers, solve};
-
-// The tolerance of subproblem1's flag.
-const TOLERANCE: f64 = 1e-6;
+ghost use Rattle.refusals.specs.Judge.{refusal-9};
+ghost use Rattle.solve.specs.Solve.{refused, answers, solve};
 
 // What a call gives: a refusal (0 is none), the number of answers inside the limits, and the
 // number of evaluations of the search error.
@@ -33,22 +29,15 @@ fn refused(family: u64, n: u64, arm: &[f64], pose: &[f64], limits: &[f64]) -> u6
     judge(family, n, arm, pose)
 }
 
-// The full list of numbers that are not refused.
-fn found(
-    family: u64,
-    n: u64,
-    arm: &[f64],
-    pose: &[f64],
-    numbers: &mut [f64],
-    bytes: &mut [u8],
-) -> FullList
-    requires { ⌜ (0 ≡ judge family n (now arm) (now pose)) × Room family (now numbers) (now bytes) ⌝ }
-    ensures { λ l. ⌜ Keeps (of-numbers family n (now (arm .entry)) (now (pose .entry))) l (now (numbers .exit)) (now (bytes .exit)) ⌝ }
+// What a call gives that was not refused: 9 where the answers do not fit both lists.
+fn given(answers: usize, evals: u64, sixes: usize, bytes: usize) -> Solved
+    ensures { λ r. ⌜ r ≡ record { refusal = refusal-9 answers (min sixes bytes); answers = answers; evals = evals } ⌝ }
 {
-    let kin = kinematics::from_numbers(arm);
-    let r = kinematics::pose_rotation(pose);
-    let p = kinematics::pose_place(pose);
-    full_list::find(family, n, r, p, kin, TOLERANCE, numbers, bytes)
+    Solved {
+        refusal: refusal_9(answers, sixes, bytes),
+        answers: answers,
+        evals: evals,
+    }
 }
 
 pub fn solve(
@@ -77,21 +66,18 @@ pub fn solve(
     if family == 6 {
         let mut qs = [0.0; 17600];
         let mut cs = [0u8; 17600];
-        let list = found(family, n, arm, pose, &mut qs, &mut cs);
-        let count = write_allowed(list, &qs, &cs, limits, angles, flags);
-        return Solved {
-            refusal: refusal_9(count, sixes, bytes),
-            answers: count,
-            evals: list.evals,
-        };
+        let list = full_list::search(n as usize, arm, pose, &mut qs, &mut cs);
+        let count = write_allowed(list, arm, pose, &qs, &cs, limits, angles, flags);
+        return given(count, list.evals, sixes, bytes);
+    }
+    // Without limits every answer stays, so that none needs to be looked at again.
+    if limits.len() == 0 {
+        let count = full_list::without_search(family, arm, pose, angles, flags);
+        return given(count, 0, sixes, bytes);
     }
     let mut eight = [0.0; 48];
     let mut eight_flags = [0u8; 8];
-    let list = found(family, n, arm, pose, &mut eight, &mut eight_flags);
-    let count = write_allowed(list, &eight, &eight_flags, limits, angles, flags);
-    Solved {
-        refusal: refusal_9(count, sixes, bytes),
-        answers: count,
-        evals: list.evals,
-    }
+    let list = full_list::list_of_eight(family, arm, pose, &mut eight, &mut eight_flags);
+    let count = write_allowed(list, arm, pose, &eight, &eight_flags, limits, angles, flags);
+    given(count, 0, sixes, bytes)
 }

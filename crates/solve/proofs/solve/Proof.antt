@@ -11,15 +11,18 @@ use lib.Ieee.{Float}
 use lib.ListN.{length}
 use Rattle.answers.specs.Written.{room, written, flagged, Wrote}
 use Rattle.answers.proofs.Laws.{nothing, by-name}
-use Rattle.refusals.specs.Judge.{judge, refusal-9}
-use Rattle.limits.specs.Limits.{Twelve-or-none, allowed, refusal-10}
-use Rattle.limits.proofs.Filter.{none-allowed}
-use Rattle.full_list.specs.Full.{Full, no-search}
-use Rattle.full_list.specs.Listed.{listed, Keeps, Room}
+use Rattle.kinematics.specs.Kinematics.{from-numbers}
+use Rattle.kinematics.specs.Pose.{pose-rotation, pose-place}
+use Rattle.refusals.specs.Judge.{refusal-9}
+use Rattle.limits.specs.Limits.{Twelve-or-none, allowed}
+use Rattle.limits.proofs.Filter.{none-allowed, no-limits}
+use Rattle.full_list.specs.Full.{Full, no-search, without-search, tolerance, of-numbers}
+use Rattle.full_list.specs.Listed.{listed, Keeps}
 use Rattle.full_list.specs.declared.FullList.{FullList}
-use Rattle.solve.specs.Solve.{refused, of-numbers, full, answers, solve}
+use Rattle.full_list.proofs.Laws.{closed}
+use Rattle.solve.specs.Solve.{refused, full, answers, solve}
 use Rattle.solve.specs.declared.Solved.{Solved}
-use Rattle.solve.proofs.Accepted.{accepted-numbers, accepted-limits}
+use Rattle.solve.proofs.Accepted.{Accepted, accepted, accepted-numbers, accepted-limits}
 use Rattle.solve.proofs.solve.Statement.{statement}
 use Rattle.solve.proofs.solve.Tie as tie
 
@@ -46,89 +49,156 @@ module _ (family n : ℕ) (arm pose limits : List Float) {first : ℕ} (e : firs
     not-refused : 0 ≡ refused family n arm pose limits
     not-refused = sym h ∙ e
 
-    numbers-accepted : 0 ≡ judge family n arm pose
-    numbers-accepted = accepted-numbers family n arm pose limits not-refused
+    fit : Accepted family n arm pose
+    fit = accepted family n arm pose (accepted-numbers family n arm pose limits not-refused)
+
+    arm-fits : length arm ≡ 39
+    arm-fits = fit .arm-long
+
+    pose-fits : length pose ≡ 12
+    pose-fits = fit .pose-long
+
+    family-low : 1 ≤ family
+    family-low = fit .family-low
+
+    family-high : (family ≡ 6 → ⊥) → family ≤ 5
+    family-high other = let six = fit .family-high in omega arith
 
     limits-accepted : Twelve-or-none limits
     limits-accepted = accepted-limits family n arm pose limits not-refused
 
-    module _ (angles : List Float) (flags : List ℕ) {numbers a : List Float} {bytes b : List ℕ} {l : FullList} {count : ℕ}
-        (k : Keeps (of-numbers family n arm pose) l numbers bytes)
-        (w : Wrote (allowed limits (listed l numbers bytes)) angles flags a b count) where
-      solves : full family n arm pose limits ≡ of-numbers family n arm pose
-      unfolding full
-      solves = let t = eq-eqb first 0 h in cc
+    solves : full family n arm pose limits ≡ of-numbers family n arm pose
+    unfolding full
+    solves = let t = eq-eqb first 0 h in cc
 
+    -- what is written is the list of a call that is not refused
+    module _ (angles : List Float) (flags : List ℕ) {a : List Float} {b : List ℕ} {count evals : ℕ}
+        (w : Wrote (allowed limits (of-numbers family n arm pose .answers)) angles flags a b count)
+        (v : evals ≡ of-numbers family n arm pose .evals) where
       wrote : Wrote (answers family n arm pose limits) angles flags a b count
-      wrote = by-name (rw (solves, k .all)) w
+      wrote = by-name (rw solves) w
 
-      result-solved : {q : ℕ} → q ≡ refusal-9 count (min (length angles / 6) (length flags))
-          → _≡_ {A = Solved} (record { refusal = q; answers = count; evals = l .evals }) (solve family n arm pose limits (room angles flags))
+      result : {s : Solved} → s ≡ record { refusal = refusal-9 count (min (length angles / 6) (length flags)); answers = count; evals = evals } → s ≡ solve family n arm pose limits (room angles flags)
       unfolding solve room
-      result-solved e-q =
+      result e-s =
           let t = eq-eqb first 0 h in
           let f = ap (λ (x : Full). x .evals) solves in
           let c = wrote .all-counted in
-          let v = k .counted in
           cc
 
-      angles-solved : a ≡ written (answers family n arm pose limits) angles flags
-      angles-solved = wrote .all-angles
+    -- family 6, from its pairs
+    module _ (angles : List Float) (flags : List ℕ) {qs a : List Float} {cs b : List ℕ} {l : FullList} {count : ℕ}
+        (six : family ≡ 6)
+        (k : Keeps (of-numbers 6 n arm pose) l arm pose qs cs)
+        (w : Wrote (allowed limits (listed l arm pose qs cs)) angles flags a b count) where
+      searched : Wrote (allowed limits (of-numbers family n arm pose .answers)) angles flags a b count
+      searched = by-name (rw (six, k .all)) w
 
-      flags-solved : b ≡ flagged (answers family n arm pose limits) angles flags
-      flags-solved = wrote .all-flags
+      evaluated : l .evals ≡ of-numbers family n arm pose .evals
+      evaluated = rw six (k .counted)
 
--- the room of the lists for the full list
-room-for-pairs : {family : ℕ} {numbers : List Float} {bytes : List ℕ} → family ≡ 6 → length numbers ≡ 17600 → length bytes ≡ 17600 → Room family numbers bytes
-room-for-pairs six e e′ = record { eight = λ h. absurd (h six); pairs = λ _. (e, e′) }
+      result-searched : {s : Solved} → s ≡ record { refusal = refusal-9 count (min (length angles / 6) (length flags)); answers = count; evals = l .evals } → s ≡ solve family n arm pose limits (room angles flags)
+      result-searched e-s = result angles flags searched evaluated e-s
 
-room-for-eight : {family : ℕ} {numbers : List Float} {bytes : List ℕ} → (family ≡ 6 → ⊥) → length numbers ≡ 48 → length bytes ≡ 8 → Room family numbers bytes
-room-for-eight other e e′ = record { eight = λ _. (e, e′); pairs = λ h. absurd (other h) }
+      angles-searched : a ≡ written (answers family n arm pose limits) angles flags
+      angles-searched = wrote angles flags searched evaluated .all-angles
+
+      flags-searched : b ≡ flagged (answers family n arm pose limits) angles flags
+      flags-searched = wrote angles flags searched evaluated .all-flags
+
+    -- the others: directly without limits, else from the list of eight
+    module _ (other : family ≡ 6 → ⊥) where
+      no-search-made : 0 ≡ of-numbers family n arm pose .evals
+      no-search-made = sym (ap (λ (x : Full). x .evals) (closed family n (pose-rotation pose) (pose-place pose) (from-numbers arm) tolerance other))
+
+      same-list : of-numbers family 0 arm pose ≡ of-numbers family n arm pose
+      same-list = closed family 0 (pose-rotation pose) (pose-place pose) (from-numbers arm) tolerance other ∙ sym (closed family n (pose-rotation pose) (pose-place pose) (from-numbers arm) tolerance other)
+
+      module _ (angles : List Float) (flags : List ℕ) {a : List Float} {b : List ℕ} {count : ℕ}
+          (none : length limits ≡ 0)
+          (w : Wrote (without-search family (pose-rotation pose) (pose-place pose) (from-numbers arm) tolerance) angles flags a b count) where
+        direct : Wrote (allowed limits (of-numbers family n arm pose .answers)) angles flags a b count
+        direct = by-name (rw (closed family n (pose-rotation pose) (pose-place pose) (from-numbers arm) tolerance other) (sym (no-limits limits none (without-search family (pose-rotation pose) (pose-place pose) (from-numbers arm) tolerance)))) w
+
+        result-direct : {s : Solved} → s ≡ record { refusal = refusal-9 count (min (length angles / 6) (length flags)); answers = count; evals = 0 } → s ≡ solve family n arm pose limits (room angles flags)
+        result-direct e-s = result angles flags direct no-search-made e-s
+
+        angles-direct : a ≡ written (answers family n arm pose limits) angles flags
+        angles-direct = wrote angles flags direct no-search-made .all-angles
+
+        flags-direct : b ≡ flagged (answers family n arm pose limits) angles flags
+        flags-direct = wrote angles flags direct no-search-made .all-flags
+
+      module _ (angles : List Float) (flags : List ℕ) {eight a : List Float} {bytes b : List ℕ} {l : FullList} {count : ℕ}
+          (k : Keeps (of-numbers family 0 arm pose) l arm pose eight bytes)
+          (w : Wrote (allowed limits (listed l arm pose eight bytes)) angles flags a b count) where
+        listed-first : Wrote (allowed limits (of-numbers family n arm pose .answers)) angles flags a b count
+        listed-first = by-name (rw (← same-list, k .all)) w
+
+        result-listed : {s : Solved} → s ≡ record { refusal = refusal-9 count (min (length angles / 6) (length flags)); answers = count; evals = 0 } → s ≡ solve family n arm pose limits (room angles flags)
+        result-listed e-s = result angles flags listed-first no-search-made e-s
+
+        angles-listed : a ≡ written (answers family n arm pose limits) angles flags
+        angles-listed = wrote angles flags listed-first no-search-made .all-angles
+
+        flags-listed : b ≡ flagged (answers family n arm pose limits) angles flags
+        flags-listed = wrote angles flags listed-first no-search-made .all-flags
 
 returns : tie.Need-returns
 returns c = (search result-refused, (search angles-refused, search flags-refused))
 
-found-requires : tie.Need-found-requires
-found-requires c κs = (search numbers-accepted, search room-for-pairs)
+search-requires : tie.Need-search-requires
+search-requires c κs = (search arm-fits, search pose-fits, search needs, search needs)
 
 write-allowed-requires : tie.Need-write-allowed-requires
 write-allowed-requires c κs = (search needs, search limits-accepted)
 
 returns-2 : tie.Need-returns-2
-returns-2 c = (search result-solved, (search angles-solved, search flags-solved))
+returns-2 c = (search result-searched, (search angles-searched, search flags-searched))
 
-found-requires-2 : tie.Need-found-requires-2
-found-requires-2 c κs = (search numbers-accepted, search room-for-eight)
+without-search-requires : tie.Need-without-search-requires
+without-search-requires c κs = (search family-low, search family-high, search arm-fits, search pose-fits)
+
+returns-3 : tie.Need-returns-3
+returns-3 c = (search result-direct, (search angles-direct, search flags-direct))
+
+list-of-eight-requires : tie.Need-list-of-eight-requires
+list-of-eight-requires c κs = (search family-low, search family-high, search arm-fits, search pose-fits, search needs, search needs)
 
 write-allowed-requires-2 : tie.Need-write-allowed-requires-2
 write-allowed-requires-2 c κs = (search needs, search limits-accepted)
 
-returns-3 : tie.Need-returns-3
-returns-3 c = (search result-solved, (search angles-solved, search flags-solved))
+returns-4 : tie.Need-returns-4
+returns-4 c = (search result-listed, (search angles-listed, search flags-listed))
 
 pub solve-spec : {M : Type 1} → statement M
 solve-spec =
     tie.close
     (tie.spec
-    (λ _ _. tt)
+    (λ c κs. search needs)
     returns
     (λ c. search needs)
     (λ c. search needs)
-    found-requires
+    search-requires
     (λ c. search needs)
     (λ c. search needs)
     write-allowed-requires
-    (λ _ _. tt)
+    (λ c κs. search needs)
     (λ c. search needs)
     (λ c. search needs)
     returns-2
+    without-search-requires
+    (λ c κs. search needs)
     (λ c. search needs)
     (λ c. search needs)
-    found-requires-2
+    returns-3
+    (λ c. search needs)
+    (λ c. search needs)
+    list-of-eight-requires
     (λ c. search needs)
     (λ c. search needs)
     write-allowed-requires-2
-    (λ _ _. tt)
+    (λ c κs. search needs)
     (λ c. search needs)
     (λ c. search needs)
-    returns-3)
+    returns-4)
