@@ -1,16 +1,15 @@
 -- The code's tests in order make the definitions.
-use Prim.Native.Nat.{ℕ, _≤_, _<_}
+use Prim.Native.Nat.{ℕ}
 use mathlib.Core.Path.{_≡_, refl, sym}
 use mathlib.Core.Bool.{Bool, true, false, not, cond, _&&_}
 use mathlib.Core.List.{List}
 use native.Mathlib.Omega.{arith}
-use borrow.Author.Tests.{eq-eqb, ne-eqb, eqb-true, eqb-false, le-leb, lt-leb}
+use borrow.Author.Tests.{eq-eqb, ne-eqb, eqb-true, eqb-false}
 use lib.Dec.{eqb}
 use lib.Ieee.{Float, nan, le, lt}
 use lib.ListN.{length, getD}
 use Rattle.answers.specs.declared.Answer.{Answer}
-use Rattle.refusals.specs.Judge.{first-not-finite, all-finite}
-use Rattle.limits.specs.Limits.{between, all6, Twelve-or-none, inside, ordered, refusal-10}
+use Rattle.limits.specs.Limits.{between, all6, Twelve-or-none, inside, stops-fit, fit, refusal-10}
 
 module _ (low q high : Float) where
   pub not-below : le low q ≡ true → le q high ≡ between low q high
@@ -48,15 +47,15 @@ module _ (l : List Float) where
   each-joint q long ea eb ec ed ee ef er = rw (ne-eqb (length l) 0 (λ z. omega arith), er, ea, eb, ec, ed, ee, ef)
 
   pub each-pair : {a b c d e f r : Bool}
-      → a ≡ not (lt (getD l 1 nan) (getD l 0 nan))
-      → b ≡ not (lt (getD l 3 nan) (getD l 2 nan))
-      → c ≡ not (lt (getD l 5 nan) (getD l 4 nan))
-      → d ≡ not (lt (getD l 7 nan) (getD l 6 nan))
-      → e ≡ not (lt (getD l 9 nan) (getD l 8 nan))
-      → f ≡ not (lt (getD l 11 nan) (getD l 10 nan))
+      → a ≡ stops-fit (getD l 0 nan) (getD l 1 nan)
+      → b ≡ stops-fit (getD l 2 nan) (getD l 3 nan)
+      → c ≡ stops-fit (getD l 4 nan) (getD l 5 nan)
+      → d ≡ stops-fit (getD l 6 nan) (getD l 7 nan)
+      → e ≡ stops-fit (getD l 8 nan) (getD l 9 nan)
+      → f ≡ stops-fit (getD l 10 nan) (getD l 11 nan)
       → r ≡ all6 a b c d e f
-      → r ≡ ordered l
-  unfolding ordered
+      → r ≡ fit l
+  unfolding fit
   each-pair ea eb ec ed ee ef er = rw (er, ea, eb, ec, ed, ee, ef)
 
   pub none-fine : length l ≡ 0 → 0 ≡ refusal-10 l
@@ -67,19 +66,16 @@ module _ (l : List Float) where
   unfolding refusal-10
   another-length some h = rw (ne-eqb (length l) 0 some, ne-eqb (length l) 12 h)
 
-  module _ (some : length l ≡ 0 → ⊥) (long : length l ≡ 12) {p : ℕ} (e : p ≡ first-not-finite l) where
-    pub not-finite : p < 12 → 10 ≡ refusal-10 l
+  module _ (some : length l ≡ 0 → ⊥) (long : length l ≡ 12) {t : Bool} (e : t ≡ fit l) where
+    by-fit : refusal-10 l ≡ cond t 0 10
     unfolding refusal-10
-    not-finite h = rw (ne-eqb (length l) 0 some, eq-eqb (length l) 12 long, lt-leb (length l) (first-not-finite l) (omega arith))
+    by-fit = rw (ne-eqb (length l) 0 some, eq-eqb (length l) 12 long, ← e)
 
-    module _ (h : 12 ≤ p) {t : Bool} (e-t : t ≡ ordered l) where
-      pub fine : t ≡ true → 0 ≡ refusal-10 l
-      unfolding refusal-10
-      fine y = let o : ordered l ≡ true = cc in rw (ne-eqb (length l) 0 some, eq-eqb (length l) 12 long, le-leb (length l) (first-not-finite l) (omega arith), o)
+    pub fine : t ≡ true → 0 ≡ refusal-10 l
+    fine y = rw (by-fit, y)
 
-      pub out-of-order : t ≡ false → 10 ≡ refusal-10 l
-      unfolding refusal-10
-      out-of-order n = let o : ordered l ≡ false = cc in rw (ne-eqb (length l) 0 some, eq-eqb (length l) 12 long, le-leb (length l) (first-not-finite l) (omega arith), o)
+    pub not-fit : t ≡ false → 10 ≡ refusal-10 l
+    not-fit n = rw (by-fit, n)
 
   -- limits that are not refused are twelve or none
   by-refusal : (a b : Bool) → _≡_ {A = ℕ} (cond a 0 (cond b 0 10)) 0 → (a ≡ false) → b ≡ true
@@ -94,5 +90,5 @@ module _ (l : List Float) where
   pub twelve-or-none : refusal-10 l ≡ 0 → Twelve-or-none l
   unfolding refusal-10
   twelve-or-none e some =
-      let t = by-refusal (eqb (length l) 0) (eqb (length l) 12 && all-finite l && ordered l) e (ne-eqb (length l) 0 some) in
-      eqb-true (length l) 12 (first-of (eqb (length l) 12) _ (first-of (eqb (length l) 12 && all-finite l) _ t))
+      let t = by-refusal (eqb (length l) 0) (eqb (length l) 12 && fit l) e (ne-eqb (length l) 0 some) in
+      eqb-true (length l) 12 (first-of (eqb (length l) 12) (fit l) t)

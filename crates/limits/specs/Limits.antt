@@ -8,7 +8,7 @@ use lib.Dec.{eqb}
 use lib.Ieee.{Float, nan, le, lt}
 use lib.ListN.{length, getD}
 use Rattle.answers.specs.declared.Answer.{Answer}
-use Rattle.refusals.specs.Judge.{all-finite}
+use Rattle.float.specs.Number.{is-finite}
 
 -- as f64 compare: an end is inside, a NaN is outside
 abbrev pub between : Float → Float → Float → Bool
@@ -43,13 +43,16 @@ unfoldable pub allowed : List Float → List Answer → List Answer
 allowed limits [] = []
 allowed limits (q ∷ answers) = cond (inside limits q) (q ∷ allowed limits answers) (allowed limits answers)
 
--- no low is above its high
-abbrev pub in-order : List Float → ℕ → Bool
-in-order limits j = not (lt (high limits j) (low limits j))
+-- a low and a high that are finite, the low not above the high
+unfoldable pub stops-fit : Float → Float → Bool
+stops-fit low high = is-finite low && is-finite high && not (lt high low)
 
-unfoldable pub ordered : List Float → Bool
-ordered limits = all6 (in-order limits 0) (in-order limits 1) (in-order limits 2) (in-order limits 3) (in-order limits 4) (in-order limits 5)
+abbrev pub fit-joint : List Float → ℕ → Bool
+fit-joint limits j = stops-fit (low limits j) (high limits j)
+
+unfoldable pub fit : List Float → Bool
+fit limits = all6 (fit-joint limits 0) (fit-joint limits 1) (fit-joint limits 2) (fit-joint limits 3) (fit-joint limits 4) (fit-joint limits 5)
 
 -- "Refused: 10, limits lent to a call that are neither twelve numbers nor none, a limit that isn't finite or a low above its high"
 unfoldable pub refusal-10 : List Float → ℕ
-refusal-10 limits = cond (eqb (length limits) 0) 0 (cond (eqb (length limits) 12 && all-finite limits && ordered limits) 0 10)
+refusal-10 limits = cond (eqb (length limits) 0) 0 (cond (eqb (length limits) 12 && fit limits) 0 10)

@@ -6,7 +6,7 @@ ghost use mathlib.Core.List.{_∷_, []};
 ghost use lib.Ieee.{lt};
 ghost use lib.ListN.{length};
 ghost use Rattle.answers.specs.Written.{Wrote};
-ghost use Rattle.limits.specs.Limits.{between, all6, Twelve-or-none, inside, allowed, ordered, refusal-10};
+ghost use Rattle.limits.specs.Limits.{between, all6, Twelve-or-none, inside, allowed, stops-fit, fit, refusal-10};
 
 fn between(low: f64, q: f64, high: f64) -> bool
     ensures { λ r. ⌜ r ≡ between low q high ⌝ }
@@ -18,6 +18,12 @@ fn in_order(low: f64, high: f64) -> bool
     ensures { λ r. ⌜ r ≡ not (lt high low) ⌝ }
 {
     if high < low { false } else { true }
+}
+
+fn stops_fit(low: f64, high: f64) -> bool
+    ensures { λ r. ⌜ r ≡ stops-fit low high ⌝ }
+{
+    float::is_finite(low) & float::is_finite(high) & in_order(low, high)
 }
 
 fn all6(a: bool, b: bool, c: bool, d: bool, e: bool, f: bool) -> bool
@@ -56,16 +62,16 @@ pub fn put_allowed(limits: &[f64], q: Answer, angles: &mut [f64], flags: &mut [u
     }
 }
 
-fn ordered(limits: &[f64]) -> bool
+fn fit(limits: &[f64]) -> bool
     requires { ⌜ length (now limits) ≡ 12 ⌝ }
-    ensures { λ r. ⌜ r ≡ ordered (now (limits .entry)) ⌝ }
+    ensures { λ r. ⌜ r ≡ fit (now (limits .entry)) ⌝ }
 {
-    let a = in_order(limits[0], limits[1]);
-    let b = in_order(limits[2], limits[3]);
-    let c = in_order(limits[4], limits[5]);
-    let d = in_order(limits[6], limits[7]);
-    let e = in_order(limits[8], limits[9]);
-    let f = in_order(limits[10], limits[11]);
+    let a = stops_fit(limits[0], limits[1]);
+    let b = stops_fit(limits[2], limits[3]);
+    let c = stops_fit(limits[4], limits[5]);
+    let d = stops_fit(limits[6], limits[7]);
+    let e = stops_fit(limits[8], limits[9]);
+    let f = stops_fit(limits[10], limits[11]);
     all6(a, b, c, d, e, f)
 }
 
@@ -80,8 +86,5 @@ pub fn refusal_10(limits: &[f64]) -> u64
     if n != 12 {
         return 10;
     }
-    if refusals::first_not_finite(limits) < 12 {
-        return 10;
-    }
-    if ordered(limits) { 0 } else { 10 }
+    if fit(limits) { 0 } else { 10 }
 }
