@@ -1,1 +1,3 @@
 pub mod Solve
+pub mod Demand3
+pub mod Limited
