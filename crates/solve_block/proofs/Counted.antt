@@ -4,6 +4,7 @@ use mathlib.Core.Path.{_≡_, refl}
 use mathlib.Core.Bool.{Bool, true, false, cond}
 use mathlib.Core.List.{List, []}
 use lib.Dec.{eqb}
+use lib.Ieee.{Float}
 use lib.ListN.{length}
 use Rattle.block.specs.Block.{refusal, family, samples, arm, pose}
 use Rattle.solve.specs.Solve.{answers, solve}
@@ -16,6 +17,6 @@ unfolding solve
 solved-or-none bytes room true = refl
 solved-or-none bytes room false = refl
 
-pub counted : (bytes : List ℕ) (room : ℕ) → solve-block bytes room .answers ≡ length (block-answers bytes)
+pub counted : (bytes : List ℕ) (limits : List Float) (room : ℕ) → solve-block bytes limits room .answers ≡ length (block-answers bytes limits)
 unfolding solve-block block-answers
-counted bytes room = solved-or-none bytes room (eqb (refusal bytes) 0)
+counted bytes limits room = solved-or-none bytes room (eqb (refusal bytes) 0)

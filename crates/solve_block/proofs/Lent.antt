@@ -11,33 +11,33 @@ use Rattle.block.specs.Block.{refusal, family, samples, arm, pose}
 use Rattle.solve.specs.Solve.{answers, solve}
 use Rattle.solve_block.specs.SolveBlock.{solve-block, block-answers}
 
-pub record Lent (bytes : List ℕ) (angles : List Float) (flags : List ℕ) : Type 0 where
+pub record Lent (bytes : List ℕ) (limits angles : List Float) (flags : List ℕ) : Type 0 where
   -- refusals 1 to 3 report zeros and leave both lists as they came
-  pub refused : (refusal bytes ≡ 0 → ⊥) → solve-block bytes (room angles flags) ≡ record { refusal = refusal bytes; answers = 0; evals = 0 }
-  pub refused-angles : (refusal bytes ≡ 0 → ⊥) → written (block-answers bytes) angles flags ≡ angles
-  pub refused-flags : (refusal bytes ≡ 0 → ⊥) → flagged (block-answers bytes) angles flags ≡ flags
+  pub refused : (refusal bytes ≡ 0 → ⊥) → solve-block bytes limits (room angles flags) ≡ record { refusal = refusal bytes; answers = 0; evals = 0 }
+  pub refused-angles : (refusal bytes ≡ 0 → ⊥) → written (block-answers bytes limits) angles flags ≡ angles
+  pub refused-flags : (refusal bytes ≡ 0 → ⊥) → flagged (block-answers bytes limits) angles flags ≡ flags
   -- where none of them applies, the call is the solve call with the block's numbers
-  pub solved : refusal bytes ≡ 0 → solve-block bytes (room angles flags) ≡ solve (family bytes) (samples bytes) (arm bytes) (pose bytes) (room angles flags)
-  pub same-answers : refusal bytes ≡ 0 → block-answers bytes ≡ answers (family bytes) (samples bytes) (arm bytes) (pose bytes)
+  pub solved : refusal bytes ≡ 0 → solve-block bytes limits (room angles flags) ≡ solve (family bytes) (samples bytes) (arm bytes) (pose bytes) (room angles flags)
+  pub same-answers : refusal bytes ≡ 0 → block-answers bytes limits ≡ answers (family bytes) (samples bytes) (arm bytes) (pose bytes)
 
-module _ (bytes : List ℕ) (angles : List Float) (flags : List ℕ) where
-  none : (refusal bytes ≡ 0 → ⊥) → block-answers bytes ≡ []
+module _ (bytes : List ℕ) (limits angles : List Float) (flags : List ℕ) where
+  none : (refusal bytes ≡ 0 → ⊥) → block-answers bytes limits ≡ []
   unfolding block-answers
   none h = rw (ne-eqb (refusal bytes) 0 h)
 
-  by-refusal : (refusal bytes ≡ 0 → ⊥) → solve-block bytes (room angles flags) ≡ record { refusal = refusal bytes; answers = 0; evals = 0 }
+  by-refusal : (refusal bytes ≡ 0 → ⊥) → solve-block bytes limits (room angles flags) ≡ record { refusal = refusal bytes; answers = 0; evals = 0 }
   unfolding solve-block
   by-refusal h = rw (ne-eqb (refusal bytes) 0 h)
 
-  by-solve : refusal bytes ≡ 0 → solve-block bytes (room angles flags) ≡ solve (family bytes) (samples bytes) (arm bytes) (pose bytes) (room angles flags)
+  by-solve : refusal bytes ≡ 0 → solve-block bytes limits (room angles flags) ≡ solve (family bytes) (samples bytes) (arm bytes) (pose bytes) (room angles flags)
   unfolding solve-block
   by-solve z = rw (eq-eqb (refusal bytes) 0 z)
 
-  all : refusal bytes ≡ 0 → block-answers bytes ≡ answers (family bytes) (samples bytes) (arm bytes) (pose bytes)
+  all : refusal bytes ≡ 0 → block-answers bytes limits ≡ answers (family bytes) (samples bytes) (arm bytes) (pose bytes)
   unfolding block-answers
   all z = rw (eq-eqb (refusal bytes) 0 z)
 
-  pub lent : Lent bytes angles flags
+  pub lent : Lent bytes limits angles flags
   lent =
       record {
         refused = by-refusal;

@@ -6,10 +6,10 @@ ghost use Rattle.answers.specs.Written.{room, written, flagged};
 ghost use Rattle.solve_block.specs.SolveBlock.{solve-block, block-answers};
 
 // Judges a block and solves it: refusals 1 to 3, or what the solve call gives.
-pub fn solve_block(bytes: &[u8], angles: &mut [f64], flags: &mut [u8]) -> Solved
-    ensures result { λ r. ⌜ r ≡ solve-block (now (bytes .entry)) (room (now (angles .entry)) (now (flags .entry))) ⌝ }
-    ensures angles { λ _. ⌜ now (angles .exit) ≡ written (block-answers (now (bytes .entry))) (now (angles .entry)) (now (flags .entry)) ⌝ }
-    ensures flags { λ _. ⌜ now (flags .exit) ≡ flagged (block-answers (now (bytes .entry))) (now (angles .entry)) (now (flags .entry)) ⌝ }
+pub fn solve_block(bytes: &[u8], limits: &[f64], angles: &mut [f64], flags: &mut [u8]) -> Solved
+    ensures result { λ r. ⌜ r ≡ solve-block (now (bytes .entry)) (now (limits .entry)) (room (now (angles .entry)) (now (flags .entry))) ⌝ }
+    ensures angles { λ _. ⌜ now (angles .exit) ≡ written (block-answers (now (bytes .entry)) (now (limits .entry))) (now (angles .entry)) (now (flags .entry)) ⌝ }
+    ensures flags { λ _. ⌜ now (flags .exit) ≡ flagged (block-answers (now (bytes .entry)) (now (limits .entry))) (now (angles .entry)) (now (flags .entry)) ⌝ }
 {
     let refused = block::refusal(bytes);
     if refused != 0 {

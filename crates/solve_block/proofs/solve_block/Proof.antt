@@ -20,35 +20,35 @@ module _ (bytes : List ℕ) {refused : ℕ} (e : refused ≡ refusal bytes) wher
   whole-block : refused ≡ 0 → 512 ≤ length bytes
   whole-block h = whole bytes (sym h ∙ e)
 
-  module _ (a : List Float) (f : List ℕ) where
+  module _ (l a : List Float) (f : List ℕ) where
     module _ (h : refused ≡ 0 → ⊥) where
-      none : block-answers bytes ≡ []
+      none : block-answers bytes l ≡ []
       unfolding block-answers
       none = let t = ne-eqb refused 0 h in cc
 
-      result-refused : _≡_ {A = Solved} (record { refusal = refused; answers = 0; evals = 0 }) (solve-block bytes (room a f))
+      result-refused : _≡_ {A = Solved} (record { refusal = refused; answers = 0; evals = 0 }) (solve-block bytes l (room a f))
       unfolding solve-block
       result-refused = rw (← e, ne-eqb refused 0 h)
 
-      angles-refused : a ≡ written (block-answers bytes) a f
+      angles-refused : a ≡ written (block-answers bytes l) a f
       angles-refused = rw none (nothing a f .all-angles)
 
-      flags-refused : f ≡ flagged (block-answers bytes) a f
+      flags-refused : f ≡ flagged (block-answers bytes l) a f
       flags-refused = rw none (nothing a f .all-flags)
 
     module _ {fam n : ℕ} {m p : List Float} (h : refused ≡ 0) (e-f : fam ≡ family bytes) (e-n : n ≡ samples bytes) (e-m : m ≡ arm bytes) (e-p : p ≡ pose bytes) where
-      same : answers fam n m p ≡ block-answers bytes
+      same : answers fam n m p ≡ block-answers bytes l
       unfolding block-answers
       same = rw (e-f, e-n, e-m, e-p, ← e, eq-eqb refused 0 h)
 
-      result-solved : {s : Solved} → s ≡ solve fam n m p (room a f) → s ≡ solve-block bytes (room a f)
+      result-solved : {s : Solved} → s ≡ solve fam n m p (room a f) → s ≡ solve-block bytes l (room a f)
       unfolding solve-block
       result-solved e-s = rw (e-s, e-f, e-n, e-m, e-p, ← e, eq-eqb refused 0 h)
 
-      angles-solved : {a′ : List Float} → a′ ≡ written (answers fam n m p) a f → a′ ≡ written (block-answers bytes) a f
+      angles-solved : {a′ : List Float} → a′ ≡ written (answers fam n m p) a f → a′ ≡ written (block-answers bytes l) a f
       angles-solved w = rw same at w
 
-      flags-solved : {f′ : List ℕ} → f′ ≡ flagged (answers fam n m p) a f → f′ ≡ flagged (block-answers bytes) a f
+      flags-solved : {f′ : List ℕ} → f′ ≡ flagged (answers fam n m p) a f → f′ ≡ flagged (block-answers bytes l) a f
       flags-solved w = rw same at w
 
 returns : tie.Need-returns
