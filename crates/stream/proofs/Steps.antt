@@ -107,14 +107,14 @@ module _ (p : Progress) (block : List ℕ) (limits : List Float) (out₀ : List 
         }
 
     -- the block is full
-    pub filled-up : {limits′ : List Float} {accept : Bool} {place : ℕ} → Put (lines block (p .place) (take (held (p .limited)) limits)) 0 out₀ out m → accept ≡ accepted block
-        → limits′ ≡ in-force block limits → place ≡ cond accept (p .place) (p .place + 1)
-        → Went (full (standing p block limits out₀) block) (at place (p .limited || accept) 0 0 m (p .ended) (p .failed)) (p .place) block limits′ out
+    pub filled-up : {limits′ : List Float} {accept limited : Bool} {place : ℕ} → Put (lines block (p .place) (take (held (p .limited)) limits)) 0 out₀ out m → accept ≡ accepted block
+        → limits′ ≡ in-force block limits → limited ≡ p .limited || accept → place ≡ cond accept (p .place) (p .place + 1)
+        → Went (full (standing p block limits out₀) block) (at place limited 0 0 m (p .ended) (p .failed)) (p .place) block limits′ out
     unfolding full place-after
-    filled-up {limits′} {accept} {place} put e-a e-l e-p =
+    filled-up {limits′} {accept} {limited} {place} put e-a e-l e-h e-p =
         let text = shown block (p .place) (take (held (p .limited)) limits) out₀ out m (s .whole-buffer) put few in
         record {
-          stands = rw (e-p, e-l, e-a, still-held block limits (p .limited), from-start, text);
+          stands = rw (e-p, e-h, e-l, e-a, still-held block limits (p .limited), from-start, text);
           sound = record { whole-block = s .whole-block; whole-buffer = kept put; room-left = omega arith; in-order = omega arith; in-buffer = omega arith };
           places = rw e-p (next-at-most (p .place) accept);
         }
