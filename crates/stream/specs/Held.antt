@@ -2,7 +2,7 @@
 -- a place unless refused. It holds for the pose blocks after it until the next one; a refused one changes nothing."
 use Prim.Native.Nat.{ℕ, _+_}
 use mathlib.Core.Path.{_≡_}
-use mathlib.Core.Bool.{Bool, true, false}
+use mathlib.Core.Bool.{true, false}
 use mathlib.Core.List.{List, [], _∷_, _++_}
 use lib.Ieee.{Float}
 use Rattle.limits.specs.Limits.{refusal-10}
