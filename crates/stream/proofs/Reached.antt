@@ -15,17 +15,17 @@ use Rattle.stream.specs.declared.progress.Progress.{Progress}
 use Rattle.stream.proofs.Right.{after-one, fitting-one}
 
 -- n calls were made, each a place at most further on
-pub record Reached (p : Progress) (block out : List ℕ) (angles : List Float) (flags : List ℕ) (n : ℕ) : Type 0 where
+pub record Reached (p : Progress) (block : List ℕ) (limits : List Float) (out : List ℕ) (angles : List Float) (flags : List ℕ) (n : ℕ) : Type 0 where
   pub ready : Ready p block out angles flags
   pub calls : List Call
   pub counted : length calls ≡ n
   pub places : p .place ≤ n
   pub fitting : Fitting start calls
-  pub came : after start calls ≡ standing p block out
+  pub came : after start calls ≡ standing p block limits out
 
-module _ (block out : List ℕ) (angles : List Float) (flags : List ℕ) where
-  pub none-made : {p : Progress} → p ≡ (record { place = 0; filled = 0; from = 0; to = 0; ended = false; failed = false }) → length block ≡ 512 → length out ≡ 106608 → length angles ≡ 6144
-      → length flags ≡ 1024 → Reached p block out angles flags 0
+module _ (block : List ℕ) (limits : List Float) (out : List ℕ) (angles : List Float) (flags : List ℕ) where
+  pub none-made : {p : Progress} → p ≡ (record { place = 0; limited = false; filled = 0; from = 0; to = 0; ended = false; failed = false }) → length block ≡ 512 → length out ≡ 106608 → length angles ≡ 6144
+      → length flags ≡ 1024 → Reached p block limits out angles flags 0
   unfolding after Fitting
   none-made e block-long out-long angles-long flags-long =
       rw e
@@ -43,10 +43,10 @@ module _ (block out : List ℕ) (angles : List Float) (flags : List ℕ) where
         came = refl;
       })
 
-  module _ (p : Progress) (n : ℕ) (r : Reached p block out angles flags n) where
-    pub one-more : (q : Progress) (block′ out′ : List ℕ) (angles′ : List Float) (flags′ : List ℕ) → Turned p block out q block′ out′ → length angles′ ≡ length angles → length flags′ ≡ length flags
-        → Reached q block′ out′ angles′ flags′ (n + 1)
-    one-more q block′ out′ angles′ flags′ t same-angles same-flags =
+  module _ (p : Progress) (n : ℕ) (r : Reached p block limits out angles flags n) where
+    pub one-more : (q : Progress) (block′ : List ℕ) (limits′ : List Float) (out′ : List ℕ) (angles′ : List Float) (flags′ : List ℕ) → Turned p block limits out q block′ limits′ out′ → length angles′ ≡ length angles → length flags′ ≡ length flags
+        → Reached q block′ limits′ out′ angles′ flags′ (n + 1)
+    one-more q block′ limits′ out′ angles′ flags′ t same-angles same-flags =
         let call : Call = record { gave = t .gave; behind = drop (p .filled) block′ } in
         let s = r .ready .sound in
         let w = t .went in
@@ -64,13 +64,13 @@ module _ (block out : List ℕ) (angles : List Float) (flags : List ℕ) where
           came = rw (after-one start (r .calls) call, r .came) (sym at);
         }
 
-    pub served-out : 2 ^ 64 - 2 ≤ n → Served (standing p block out) (2 ^ 64 - 2)
+    pub served-out : 2 ^ 64 - 2 ≤ n → Served (standing p block limits out) (2 ^ 64 - 2)
     served-out h = record { calls = r .calls; fitting = r .fitting; came = r .came; done = λ few. absurd (omega (arith, r .counted)) }
 
-    pub served-all : {ask : Ask} → Asked p ask → ask ≡ Stop → Served (standing p block out) (2 ^ 64 - 2)
+    pub served-all : {ask : Ask} → Asked p ask → ask ≡ Stop → Served (standing p block limits out) (2 ^ 64 - 2)
     served-all asked e =
         let s = r .ready .sound in
-        let stop = asked block out (s .in-order) (omega (arith, s .in-buffer, s .whole-buffer)) in
+        let stop = asked block limits out (s .in-order) (omega (arith, s .in-buffer, s .whole-buffer)) in
         record { calls = r .calls; fitting = r .fitting; came = r .came; done = λ _. sym stop ∙ e }
 
     pub sound-there : Sound p block out

@@ -1,7 +1,7 @@
--- What the program's numbers, its block and its buffer stand for after each step.
+-- What the program's numbers, its block, its limits and its buffer stand for after each step.
 use Prim.Native.Nat.{ℕ, zero, suc, _+_, _-_, _<_, _≤_, _^_, min}
 use mathlib.Core.Path.{_≡_, refl, sym, ap, _∙_}
-use mathlib.Core.Bool.{Bool, true, false, cond, true≢false}
+use mathlib.Core.Bool.{Bool, true, false, _||_, cond, true≢false}
 use mathlib.Core.List.{List, [], _∷_, _++_}
 use native.Mathlib.Nat.{le-refl}
 use native.Mathlib.Omega.{arith}
@@ -17,11 +17,14 @@ use mir.Syntax.{w64}
 use mir.Val.{SFits, toZ, ofZ}
 use mir.Facts.{toZ-ofZ}
 use Rattle.io.specs.Counts.{clamped}
+use Rattle.limits_block.specs.LimitsBlock.{limits as brought, accepted, in-force}
+use Rattle.limits_block.proofs.Accepted.{twelve}
 use Rattle.lines.specs.Lines.{lines}
 use Rattle.lines.proofs.AtStart.{shown}
 use Rattle.text.specs.Text.{Put}
-use Rattle.stream.specs.Standing.{Standing, some, broken, delivered, received, closed, heard, count, next, after-write, after-read, go-on}
-use Rattle.stream.specs.Progress.{standing, failing, wrote, Sound, Ready, Went, Asked, Turned}
+use Rattle.stream.specs.Output.{place-after}
+use Rattle.stream.specs.Standing.{Standing, some, broken, delivered, full, received, closed, heard, count, next, after-write, after-read, go-on}
+use Rattle.stream.specs.Progress.{held, standing, failing, wrote, Sound, Ready, Went, Asked, Turned}
 use Rattle.stream.specs.declared.progress.Ask.{Ask}
 use Rattle.stream.specs.declared.progress.Ask.the-variants.{Write, Read, Stop}
 use Rattle.stream.specs.declared.progress.Heard.{Heard}
@@ -32,12 +35,48 @@ use Rattle.stream.specs.declared.progress.Progress.{Progress}
 pub part : {A : Type 0} (xs : List A) (n : ℕ) → n ≤ length xs → n ≡ length (take n xs)
 part xs n h = sym (length-take-le n xs h)
 
-abbrev at : ℕ → ℕ → ℕ → ℕ → Bool → Bool → Progress
-at place filled from to ended failed = record { place = place; filled = filled; from = from; to = to; ended = ended; failed = failed }
+abbrev at : ℕ → Bool → ℕ → ℕ → ℕ → Bool → Bool → Progress
+at place limited filled from to ended failed = record { place = place; limited = limited; filled = filled; from = from; to = to; ended = ended; failed = failed }
 
-module _ (p : Progress) (block out₀ : List ℕ) (s : Sound p block out₀) where
+-- `print`: the limits in force are a part of the twelve numbers
+module _ (limits : List Float) (limited : Bool) {n : ℕ} (e : n ≡ held limited) where
+  held-few : (t : Bool) → held t ≤ 12
+  held-few true = omega arith
+  held-few false = omega arith
+
+  pub held-part : length limits ≡ 12 → n ≡ length (take n limits)
+  held-part long = part limits n (omega (arith, held-few limited))
+
+  pub held-lines : (block : List ℕ) (place : ℕ) {out₀ out : List ℕ} {r : ℕ} → Put (lines block place (take n limits)) 0 out₀ out r → Put (lines block place (take (held limited) limits)) 0 out₀ out r
+  held-lines block place put = rw e at put
+
+-- of the limits that a block leaves, those in force are as the definition has them
+module _ (block : List ℕ) (limits : List Float) where
+  either-held : (limited accept : Bool) → take (held (limited || accept)) (cond accept (brought block) limits) ≡ cond accept (brought block) (take (held limited) limits)
+  either-held true true = take-all 12 (brought block) (omega (arith, twelve block))
+  either-held false true = take-all 12 (brought block) (omega (arith, twelve block))
+  either-held true false = refl
+  either-held false false = refl
+
+  still-held : (limited : Bool) → take (held (limited || accepted block)) (in-force block limits) ≡ in-force block (take (held limited) limits)
+  unfolding in-force
+  still-held limited = either-held limited (accepted block)
+
+-- `place_after`
+module _ (place : ℕ) {accept : Bool} where
+  pub same-place : accept ≡ true → place ≡ cond accept place (place + 1)
+  same-place e = rw e
+
+  pub next-place : accept ≡ false → place + 1 ≡ cond accept place (place + 1)
+  next-place e = rw e
+
+next-at-most : (place : ℕ) (accept : Bool) → cond accept place (place + 1) ≤ place + 1
+next-at-most place true = omega arith
+next-at-most place false = omega arith
+
+module _ (p : Progress) (block : List ℕ) (limits : List Float) (out₀ : List ℕ) (s : Sound p block out₀) where
   -- the input ends
-  pub closes-none : p .filled ≡ 0 → Went (closed (standing p block out₀)) (at (p .place) 0 0 0 true (p .failed)) (p .place) block out₀
+  pub closes-none : p .filled ≡ 0 → Went (closed (standing p block limits out₀)) (at (p .place) (p .limited) 0 0 0 true (p .failed)) (p .place) block limits out₀
   unfolding closed
   closes-none h =
       let e : length (take (p .filled) block) ≡ 0 = rw (length-take (p .filled) block) (omega arith) in
@@ -55,34 +94,42 @@ module _ (p : Progress) (block out₀ : List ℕ) (s : Sound p block out₀) whe
     from-start : m - 0 ≡ m
     from-start = omega arith
 
-    pub closes-short : (p .filled ≡ 0 → ⊥) → Put (lines (take (p .filled) block) (p .place)) 0 out₀ out m
-        → Went (closed (standing p block out₀)) (at (p .place) 0 0 m true (p .failed)) (p .place) block out
+    pub closes-short : (p .filled ≡ 0 → ⊥) → Put (lines (take (p .filled) block) (p .place) (take (held (p .limited)) limits)) 0 out₀ out m
+        → Went (closed (standing p block limits out₀)) (at (p .place) (p .limited) 0 0 m true (p .failed)) (p .place) block limits out
     unfolding closed
     closes-short h put =
         let e : length (take (p .filled) block) ≡ p .filled = rw (length-take (p .filled) block) (omega (arith, s .whole-block, s .room-left)) in
-        let text = shown (take (p .filled) block) (p .place) out₀ out m (s .whole-buffer) put few in
+        let text = shown (take (p .filled) block) (p .place) (take (held (p .limited)) limits) out₀ out m (s .whole-buffer) put few in
         record {
           stands = rw (ne-eqb (length (take (p .filled) block)) 0 (λ z. h (sym e ∙ z)), from-start, text);
           sound = record { whole-block = s .whole-block; whole-buffer = kept put; room-left = omega arith; in-order = omega arith; in-buffer = omega arith };
           places = omega arith;
         }
 
-    -- n bytes more fill the block
-    pub fills : (n : ℕ) → p .filled + n ≡ 512 → Put (lines block (p .place)) 0 out₀ out m
-        → Went (received (standing p block out₀) (take n (drop (p .filled) block))) (at (p .place + 1) 0 0 m (p .ended) (p .failed)) (p .place) block out
-    unfolding received
-    fills n h put =
-        let whole : take (p .filled) block ++ take n (drop (p .filled) block) ≡ block = sym (take-add (p .filled) n block) ∙ take-all (p .filled + n) block (omega (arith, s .whole-block)) in
-        let text = shown block (p .place) out₀ out m (s .whole-buffer) put few in
+    -- the block is full
+    pub filled-up : {limits′ : List Float} {accept limited : Bool} {place : ℕ} → Put (lines block (p .place) (take (held (p .limited)) limits)) 0 out₀ out m → accept ≡ accepted block
+        → limits′ ≡ in-force block limits → limited ≡ p .limited || accept → place ≡ cond accept (p .place) (p .place + 1)
+        → Went (full (standing p block limits out₀) block) (at place limited 0 0 m (p .ended) (p .failed)) (p .place) block limits′ out
+    unfolding full place-after
+    filled-up {limits′} {accept} {limited} {place} put e-a e-l e-h e-p =
+        let text = shown block (p .place) (take (held (p .limited)) limits) out₀ out m (s .whole-buffer) put few in
         record {
-          stands = rw (whole, eq-eqb (length block) 512 (s .whole-block), from-start, text);
+          stands = rw (e-p, e-h, e-l, e-a, still-held block limits (p .limited), from-start, text);
           sound = record { whole-block = s .whole-block; whole-buffer = kept put; room-left = omega arith; in-order = omega arith; in-buffer = omega arith };
-          places = omega arith;
+          places = rw e-p (next-at-most (p .place) accept);
         }
+
+  -- n bytes more fill the block
+  pub fills : (n : ℕ) {r : Progress} {limits′ : List Float} {out : List ℕ} → p .filled + n ≡ 512 → Went (full (standing p block limits out₀) block) r (p .place) block limits′ out
+      → Went (received (standing p block limits out₀) (take n (drop (p .filled) block))) r (p .place) block limits′ out
+  unfolding received
+  fills n h w =
+      let whole : take (p .filled) block ++ take n (drop (p .filled) block) ≡ block = sym (take-add (p .filled) n block) ∙ take-all (p .filled + n) block (omega (arith, s .whole-block)) in
+      rw (whole, eq-eqb (length block) 512 (s .whole-block)) w
 
   -- they do not
   pub begins : (n : ℕ) → p .filled + n ≤ 512 → (p .filled + n ≡ 512 → ⊥)
-      → Went (received (standing p block out₀) (take n (drop (p .filled) block))) (at (p .place) (p .filled + n) 0 0 (p .ended) (p .failed)) (p .place) block out₀
+      → Went (received (standing p block limits out₀) (take n (drop (p .filled) block))) (at (p .place) (p .limited) (p .filled + n) 0 0 (p .ended) (p .failed)) (p .place) block limits out₀
   unfolding received
   begins n all h =
       let more : take (p .filled) block ++ take n (drop (p .filled) block) ≡ take (p .filled + n) block = sym (take-add (p .filled) n block) in
@@ -104,11 +151,11 @@ some-of : (l : List ℕ) → 0 < length l → some l ≡ true
 some-of [] h = absurd (omega arith)
 some-of (x ∷ l) h = refl
 
-module _ (p : Progress) (block out : List ℕ) (s : Sound p block out) where
+module _ (p : Progress) (block : List ℕ) (limits : List Float) (out : List ℕ) (s : Sound p block out) where
   -- after a write
   written-on : (n : ℕ) (t : Bool) → eqb n 0 ≡ t → p .from + n ≤ p .to
-      → Went (cond t (broken (standing p block out)) (record { place = p .place; begun = take (p .filled) block; pending = drop n (take (p .to - p .from) (drop (p .from) out)); ended = p .ended; failed = p .failed }))
-      (cond t (failing p) (at (p .place) (p .filled) (p .from + n) (p .to) (p .ended) (p .failed))) (p .place) block out
+      → Went (cond t (broken (standing p block limits out)) (record { place = p .place; limits = take (held (p .limited)) limits; begun = take (p .filled) block; pending = drop n (take (p .to - p .from) (drop (p .from) out)); ended = p .ended; failed = p .failed }))
+      (cond t (failing p) (at (p .place) (p .limited) (p .filled) (p .from + n) (p .to) (p .ended) (p .failed))) (p .place) block limits out
   unfolding broken
   written-on n true e fits =
       record {
@@ -124,23 +171,23 @@ module _ (p : Progress) (block out : List ℕ) (s : Sound p block out) where
         places = omega arith;
       }
 
-  pub writes-on : (gave : Heard) → p .from + count gave ≤ p .to → Went (after-write (standing p block out) gave) (wrote p (count gave)) (p .place) block out
+  pub writes-on : (gave : Heard) → p .from + count gave ≤ p .to → Went (after-write (standing p block limits out) gave) (wrote p (count gave)) (p .place) block limits out
   unfolding after-write delivered
   writes-on (Bytes n) fits = written-on n (eqb n 0) refl fits
   writes-on Failed fits = written-on 0 true refl fits
 
   -- after a read
-  pub reads-fail : {gave : Heard} {r : Progress} → gave ≡ Failed → r ≡ failing p → Went (after-read (standing p block out) gave (drop (p .filled) block)) r (p .place) block out
+  pub reads-fail : {gave : Heard} {r : Progress} → gave ≡ Failed → r ≡ failing p → Went (after-read (standing p block limits out) gave (drop (p .filled) block)) r (p .place) block limits out
   unfolding after-read
   reads-fail e f = rw (e, f) (written-on 0 true refl (omega (arith, s .in-order)))
 
-  module _ {gave : Heard} {n : ℕ} {r : Progress} {out′ : List ℕ} (e : gave ≡ Bytes n) where
-    pub reads-none : n ≡ 0 → Went (closed (standing p block out)) r (p .place) block out′ → Went (after-read (standing p block out) gave (drop (p .filled) block)) r (p .place) block out′
+  module _ {gave : Heard} {n : ℕ} {r : Progress} {limits′ : List Float} {out′ : List ℕ} (e : gave ≡ Bytes n) where
+    pub reads-none : n ≡ 0 → Went (closed (standing p block limits out)) r (p .place) block limits′ out′ → Went (after-read (standing p block limits out) gave (drop (p .filled) block)) r (p .place) block limits′ out′
     unfolding after-read
     reads-none h w = rw (e, eq-eqb n 0 h) w
 
-    pub reads-some : (n ≡ 0 → ⊥) → Went (received (standing p block out) (take n (drop (p .filled) block))) r (p .place) block out′
-        → Went (after-read (standing p block out) gave (drop (p .filled) block)) r (p .place) block out′
+    pub reads-some : (n ≡ 0 → ⊥) → Went (received (standing p block limits out) (take n (drop (p .filled) block))) r (p .place) block limits′ out′
+        → Went (after-read (standing p block limits out) gave (drop (p .filled) block)) r (p .place) block limits′ out′
     unfolding after-read
     reads-some h w = rw (e, ne-eqb n 0 h) w
 
@@ -149,7 +196,7 @@ module _ (p : Progress) (gave : Heard) {n : ℕ} (e : n ≡ count gave) where
   pub wrote-none : {r : Progress} → n ≡ 0 → r ≡ failing p → r ≡ wrote p (count gave)
   wrote-none h w = rw (← e, eq-eqb n 0 h) w
 
-  pub wrote-some : (n ≡ 0 → ⊥) → at (p .place) (p .filled) (p .from + n) (p .to) (p .ended) (p .failed) ≡ wrote p (count gave)
+  pub wrote-some : (n ≡ 0 → ⊥) → at (p .place) (p .limited) (p .filled) (p .from + n) (p .to) (p .ended) (p .failed) ≡ wrote p (count gave)
   wrote-some h = rw (← e, ne-eqb n 0 h)
 
 -- a part's length
@@ -207,23 +254,23 @@ module _ (block ys : List ℕ) (filled : ℕ) (inside : filled ≤ length block)
 module _ (p : Progress) where
   pub asks-none : p .failed ≡ true → Asked p Stop
   unfolding next
-  asks-none h block out in-order inside = rw h
+  asks-none h block limits out in-order inside = rw h
 
   module _ (well : p .failed ≡ false) where
     pub asks-write : p .from < p .to → Asked p Write
     unfolding next
-    asks-write h block out in-order inside =
+    asks-write h block limits out in-order inside =
         let l = part-long out (p .from) (p .to) in-order inside in
         rw (well, some-of (take (p .to - p .from) (drop (p .from) out)) (omega (arith, l)))
 
     module _ (h : p .to ≤ p .from) where
       pub asks-end : p .ended ≡ true → Asked p Stop
       unfolding next
-      asks-end e block out in-order inside = let z : p .to - p .from ≡ 0 = omega arith in rw (z, well, e)
+      asks-end e block limits out in-order inside = let z : p .to - p .from ≡ 0 = omega arith in rw (z, well, e)
 
       pub asks-read : p .ended ≡ false → Asked p Read
       unfolding next
-      asks-read e block out in-order inside = let z : p .to - p .from ≡ 0 = omega arith in rw (z, well, e)
+      asks-read e block limits out in-order inside = let z : p .to - p .from ≡ 0 = omega arith in rw (z, well, e)
 
 module _ (p : Progress) (block block′ out : List ℕ) (angles : List Float) (flags : List ℕ) (r : Ready p block out angles flags) where
   pub ready-again : length block′ ≡ length block → Ready p block′ out angles flags
@@ -239,56 +286,59 @@ module _ (p : Progress) (block block′ out : List ℕ) (angles : List Float) (f
   room-again gave fits = let l = r .sound .whole-block in omega arith
 
 -- `turn`: what happens is what was asked
-abbrev mk : ℕ → List ℕ → List ℕ → Bool → Bool → Standing
-mk place begun pending ended failed = record { place = place; begun = begun; pending = pending; ended = ended; failed = failed }
+pub asked-read : (p : Progress) {ask : Ask} → Asked p ask → ask ≡ Read → Asked p Read
+asked-read p asked e block limits out in-order inside = sym e ∙ asked block limits out in-order inside
 
-module _ (place : ℕ) (begun : List ℕ) (h : Heard) (behind : List ℕ) where
-  stop-stays : (pending : List ℕ) (ended failed : Bool) → Stop ≡ next (mk place begun pending ended failed) → go-on (mk place begun pending ended failed) h behind ≡ mk place begun pending ended failed
+abbrev mk : ℕ → List Float → List ℕ → List ℕ → Bool → Bool → Standing
+mk place limits begun pending ended failed = record { place = place; limits = limits; begun = begun; pending = pending; ended = ended; failed = failed }
+
+module _ (place : ℕ) (limits : List Float) (begun : List ℕ) (h : Heard) (behind : List ℕ) where
+  stop-stays : (pending : List ℕ) (ended failed : Bool) → Stop ≡ next (mk place limits begun pending ended failed) → go-on (mk place limits begun pending ended failed) h behind ≡ mk place limits begun pending ended failed
   unfolding next go-on
   stop-stays pending ended true e = refl
   stop-stays (x ∷ xs) ended false e = let z : _≡_ {A = ℕ} 0 1 = cc in absurd (omega arith)
   stop-stays [] true false e = refl
   stop-stays [] false false e = let z : _≡_ {A = ℕ} 0 1 = cc in absurd (omega arith)
 
-  write-goes : (pending : List ℕ) (ended failed : Bool) → Write ≡ next (mk place begun pending ended failed)
-      → go-on (mk place begun pending ended failed) h behind ≡ after-write (mk place begun pending ended failed) h
+  write-goes : (pending : List ℕ) (ended failed : Bool) → Write ≡ next (mk place limits begun pending ended failed)
+      → go-on (mk place limits begun pending ended failed) h behind ≡ after-write (mk place limits begun pending ended failed) h
   unfolding next go-on
   write-goes pending ended true e = let z : _≡_ {A = ℕ} 0 1 = cc in absurd (omega arith)
   write-goes (x ∷ xs) ended false e = refl
   write-goes [] true false e = let z : _≡_ {A = ℕ} 0 1 = cc in absurd (omega arith)
   write-goes [] false false e = let z : _≡_ {A = ℕ} 0 1 = cc in absurd (omega arith)
 
-  read-goes : (pending : List ℕ) (ended failed : Bool) → Read ≡ next (mk place begun pending ended failed)
-      → go-on (mk place begun pending ended failed) h behind ≡ after-read (mk place begun pending ended failed) h behind
+  read-goes : (pending : List ℕ) (ended failed : Bool) → Read ≡ next (mk place limits begun pending ended failed)
+      → go-on (mk place limits begun pending ended failed) h behind ≡ after-read (mk place limits begun pending ended failed) h behind
   unfolding next go-on
   read-goes pending ended true e = let z : _≡_ {A = ℕ} 0 1 = cc in absurd (omega arith)
   read-goes (x ∷ xs) ended false e = let z : _≡_ {A = ℕ} 0 1 = cc in absurd (omega arith)
   read-goes [] true false e = let z : _≡_ {A = ℕ} 0 1 = cc in absurd (omega arith)
   read-goes [] false false e = refl
 
-module _ (p : Progress) (block out : List ℕ) {ask : Ask} (s : Sound p block out) (asked : Asked p ask) where
-  asked-here : ask ≡ next (standing p block out)
-  asked-here = asked block out (s .in-order) (omega (arith, s .in-buffer, s .whole-buffer))
+module _ (p : Progress) (block : List ℕ) (limits : List Float) (out : List ℕ) {ask : Ask} (s : Sound p block out) (asked : Asked p ask) where
+  asked-here : ask ≡ next (standing p block limits out)
+  asked-here = asked block limits out (s .in-order) (omega (arith, s .in-buffer, s .whole-buffer))
 
   pending : List ℕ
   pending = take (p .to - p .from) (drop (p .from) out)
 
-  pub turned-stop : ask ≡ Stop → Turned p block out p block out
+  pub turned-stop : ask ≡ Stop → Turned p block limits out p block limits out
   unfolding pending
   turned-stop e =
-      let same = stop-stays (p .place) (take (p .filled) block) Failed (drop (p .filled) block) pending (p .ended) (p .failed) (sym e ∙ asked-here) in
+      let same = stop-stays (p .place) (take (held (p .limited)) limits) (take (p .filled) block) Failed (drop (p .filled) block) pending (p .ended) (p .failed) (sym e ∙ asked-here) in
       record { gave = Failed; went = record { stands = sym same; sound = s; places = omega arith } }
 
-  pub turned-write : (gave : Heard) {r : Progress} → ask ≡ Write → p .from + count gave ≤ p .to → r ≡ wrote p (count gave) → Turned p block out r block out
+  pub turned-write : (gave : Heard) {r : Progress} → ask ≡ Write → p .from + count gave ≤ p .to → r ≡ wrote p (count gave) → Turned p block limits out r block limits out
   unfolding pending
   turned-write gave e fits w =
-      let goes = write-goes (p .place) (take (p .filled) block) gave (drop (p .filled) block) pending (p .ended) (p .failed) (sym e ∙ asked-here) in
-      record { gave = gave; went = rw (goes, w) (writes-on p block out s gave fits) }
+      let goes = write-goes (p .place) (take (held (p .limited)) limits) (take (p .filled) block) gave (drop (p .filled) block) pending (p .ended) (p .failed) (sym e ∙ asked-here) in
+      record { gave = gave; went = rw (goes, w) (writes-on p block limits out s gave fits) }
 
-  pub turned-read : (gave : Heard) (block′ : List ℕ) {out′ : List ℕ} {r : Progress} → ask ≡ Read → take (p .filled) block′ ≡ take (p .filled) block
-      → Went (after-read (standing p block′ out) gave (drop (p .filled) block′)) r (p .place) block′ out′ → Turned p block out r block′ out′
+  pub turned-read : (gave : Heard) (block′ : List ℕ) {limits′ : List Float} {out′ : List ℕ} {r : Progress} → ask ≡ Read → take (p .filled) block′ ≡ take (p .filled) block
+      → Went (after-read (standing p block′ limits out) gave (drop (p .filled) block′)) r (p .place) block′ limits′ out′ → Turned p block limits out r block′ limits′ out′
   unfolding pending
   turned-read gave block′ e same w =
-      let goes = read-goes (p .place) (take (p .filled) block) gave (drop (p .filled) block′) pending (p .ended) (p .failed) (sym e ∙ asked-here) in
+      let goes = read-goes (p .place) (take (held (p .limited)) limits) (take (p .filled) block) gave (drop (p .filled) block′) pending (p .ended) (p .failed) (sym e ∙ asked-here) in
       let w′ = rw same at w in
       record { gave = gave; went = rw goes w′ }

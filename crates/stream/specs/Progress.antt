@@ -1,7 +1,7 @@
--- The standing that the program's numbers, its block and its buffer stand for.
+-- The standing that the program's numbers, its block, its limits and its buffer stand for.
 use Prim.Native.Nat.{ℕ, _+_, _-_, _<_, _≤_, _^_}
 use mathlib.Core.Path.{_≡_}
-use mathlib.Core.Bool.{true, cond}
+use mathlib.Core.Bool.{Bool, true, cond}
 use mathlib.Core.List.{List}
 use lib.Dec.{eqb}
 use lib.Ieee.{Float}
@@ -11,10 +11,15 @@ use Rattle.stream.specs.declared.progress.Ask.{Ask}
 use Rattle.stream.specs.declared.progress.Heard.{Heard}
 use Rattle.stream.specs.declared.progress.Progress.{Progress}
 
-abbrev pub standing : Progress → List ℕ → List ℕ → Standing
-standing p block out =
+-- how many of the twelve numbers lent for limits are in force
+abbrev pub held : Bool → ℕ
+held limited = cond limited 12 0
+
+abbrev pub standing : Progress → List ℕ → List Float → List ℕ → Standing
+standing p block limits out =
     record {
       place = p .place;
+      limits = take (held (p .limited)) limits;
       begun = take (p .filled) block;
       pending = take (p .to - p .from) (drop (p .from) out);
       ended = p .ended;
@@ -22,14 +27,14 @@ standing p block out =
     }
 
 abbrev pub failing : Progress → Progress
-failing p = record { place = p .place; filled = p .filled; from = p .from; to = p .to; ended = p .ended; failed = true }
+failing p = record { place = p .place; limited = p .limited; filled = p .filled; from = p .from; to = p .to; ended = p .ended; failed = true }
 
 -- n bytes more of the buffer were written
 abbrev pub wrote : Progress → ℕ → Progress
 wrote p n =
     cond (eqb n 0)
     (failing p)
-    (record { place = p .place; filled = p .filled; from = p .from + n; to = p .to; ended = p .ended; failed = p .failed })
+    (record { place = p .place; limited = p .limited; filled = p .filled; from = p .from + n; to = p .to; ended = p .ended; failed = p .failed })
 
 -- the numbers lie within the block and the buffer, and a read asks for at least a byte
 pub record Sound (p : Progress) (block out : List ℕ) : Type 0 where
@@ -46,16 +51,16 @@ pub record Ready (p : Progress) (block out : List ℕ) (angles : List Float) (fl
   pub flags-long : length flags ≡ 1024
 
 -- the program went on to the standing s: where it was at a place, it is there or at the next
-pub record Went (s : Standing) (p : Progress) (place : ℕ) (block out : List ℕ) : Type 0 where
-  pub stands : standing p block out ≡ s
+pub record Went (s : Standing) (p : Progress) (place : ℕ) (block : List ℕ) (limits : List Float) (out : List ℕ) : Type 0 where
+  pub stands : standing p block limits out ≡ s
   pub sound : Sound p block out
   pub places : p .place ≤ place + 1
 
--- what is asked next, whatever the block and the buffer hold
+-- what is asked next, whatever the block, the limits and the buffer hold
 abbrev pub Asked : Progress → Ask → Type 0
-Asked p ask = (block out : List ℕ) → p .from ≤ p .to → p .to ≤ length out → ask ≡ next (standing p block out)
+Asked p ask = (block : List ℕ) (limits : List Float) (out : List ℕ) → p .from ≤ p .to → p .to ≤ length out → ask ≡ next (standing p block limits out)
 
 -- one call: what it gave is the system's to say; the bytes read before it stay, and the program goes on as the definition does
-pub record Turned (p : Progress) (block₀ out₀ : List ℕ) (r : Progress) (block out : List ℕ) : Type 0 where
+pub record Turned (p : Progress) (block₀ : List ℕ) (limits₀ : List Float) (out₀ : List ℕ) (r : Progress) (block : List ℕ) (limits : List Float) (out : List ℕ) : Type 0 where
   pub gave : Heard
-  pub went : Went (go-on (standing p block₀ out₀) gave (drop (p .filled) block)) r (p .place) block out
+  pub went : Went (go-on (standing p block₀ limits₀ out₀) gave (drop (p .filled) block)) r (p .place) block limits out

@@ -3,17 +3,22 @@ use Prim.Native.Nat.{ℕ, _+_, min}
 use mathlib.Core.Bool.{Bool, true, false, cond}
 use mathlib.Core.List.{List, [], _∷_, _++_}
 use lib.Dec.{eqb}
+use lib.Ieee.{Float}
 use lib.IntN.{ℤ, pos, negsuc}
 use lib.ListN.{length, take, drop}
+use Rattle.limits_block.specs.LimitsBlock.{in-force}
 use Rattle.lines.specs.Lines.{lines}
+use Rattle.stream.specs.Output.{place-after}
 use Rattle.stream.specs.declared.progress.Ask.{Ask}
 use Rattle.stream.specs.declared.progress.Ask.the-variants.{Write, Read, Stop}
 use Rattle.stream.specs.declared.progress.Heard.{Heard}
 use Rattle.stream.specs.declared.progress.Heard.the-variants.{Bytes, Failed}
 
 pub record Standing : Type 0 where
-  -- the place of the block that is being read, and what was read of it
+  -- the place of the block that is being read, and the limits in force
   pub place : ℕ
+  pub limits : List Float
+  -- what was read of the block
   pub begun : List ℕ
   -- lines that are not written yet
   pub pending : List ℕ
@@ -23,33 +28,46 @@ pub record Standing : Type 0 where
 
 -- before the first call
 abbrev pub start : Standing
-start = record { place = 0; begun = []; pending = []; ended = false; failed = false }
+start = record { place = 0; limits = []; begun = []; pending = []; ended = false; failed = false }
 
 unfoldable pub broken : Standing → Standing
-broken s = record { place = s .place; begun = s .begun; pending = s .pending; ended = s .ended; failed = true }
+broken s = record { place = s .place; limits = s .limits; begun = s .begun; pending = s .pending; ended = s .ended; failed = true }
 
 -- a write took the first n bytes; one that takes none has failed
 unfoldable pub delivered : Standing → ℕ → Standing
 delivered s n =
     cond (eqb n 0)
     (broken s)
-    (record { place = s .place; begun = s .begun; pending = drop n (s .pending); ended = s .ended; failed = s .failed })
+    (record { place = s .place; limits = s .limits; begun = s .begun; pending = drop n (s .pending); ended = s .ended; failed = s .failed })
 
--- a read brought bytes: where they fill the block, its lines are to be written, and the next block begins
+-- a block is full: its lines are to be written, the limits are those in force after it, and the next block begins
+unfoldable pub full : Standing → List ℕ → Standing
+full s block =
+    record {
+      place = place-after block (s .place);
+      limits = in-force block (s .limits);
+      begun = [];
+      pending = lines block (s .place) (s .limits);
+      ended = s .ended;
+      failed = s .failed;
+    }
+
+-- a read brought bytes, which fill the block, or do not
 unfoldable pub received : Standing → List ℕ → Standing
 received s new =
     let block = s .begun ++ new in
     cond (eqb (length block) 512)
-    (record { place = s .place + 1; begun = []; pending = lines block (s .place); ended = s .ended; failed = s .failed })
-    (record { place = s .place; begun = block; pending = []; ended = s .ended; failed = s .failed })
+    (full s block)
+    (record { place = s .place; limits = s .limits; begun = block; pending = []; ended = s .ended; failed = s .failed })
 
 -- a read brought nothing: the input has ended, and a block that was begun is a short last one
 unfoldable pub closed : Standing → Standing
 closed s =
     record {
       place = s .place;
+      limits = s .limits;
       begun = [];
-      pending = cond (eqb (length (s .begun)) 0) [] (lines (s .begun) (s .place));
+      pending = cond (eqb (length (s .begun)) 0) [] (lines (s .begun) (s .place) (s .limits));
       ended = true;
       failed = s .failed;
     }

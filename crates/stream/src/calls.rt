@@ -2,6 +2,7 @@
 // gave.
 use crate::progress::Ask;
 use crate::progress::Heard;
+use crate::progress::Limits;
 use crate::progress::Progress;
 use crate::progress::after_read;
 use crate::progress::after_write;
@@ -39,32 +40,52 @@ fn write_on(out: &[u8], from: usize, to: usize) -> Heard
     hear(moved, &out[from..to])
 }
 
+// One read, and how the program goes on after it.
+fn read_turn(
+    p: Progress,
+    block: &mut [u8],
+    limits: &mut Limits,
+    angles: &mut [f64],
+    flags: &mut [u8],
+    out: &mut Buffer,
+) -> Progress
+    requires { ⌜ Ready p (now block) (now out) (now angles) (now flags) × (p .place + 1 < 2 ^ 64) × Asked p Ask.Read ⌝ }
+    ensures { λ r. ⌜ Turned p (now (block .entry)) (now (limits .entry)) (now (out .entry)) r (now (block .exit)) (now (limits .exit)) (now (out .exit)) ⌝ }
+{
+    let gave = read_on(block, p.filled);
+    after_read(p, gave, block, limits, angles, flags, out)
+}
+
 // One call of the system, and how the program goes on after it.
 fn turn(
     p: Progress,
     ask: Ask,
     block: &mut [u8],
+    limits: &mut Limits,
     angles: &mut [f64],
     flags: &mut [u8],
     out: &mut Buffer,
 ) -> Progress
     requires { ⌜ Ready p (now block) (now out) (now angles) (now flags) × (p .place + 1 < 2 ^ 64) × Asked p ask ⌝ }
-    ensures { λ r. ⌜ Turned p (now (block .entry)) (now (out .entry)) r (now (block .exit)) (now (out .exit)) ⌝ }
+    ensures { λ r. ⌜ Turned p (now (block .entry)) (now (limits .entry)) (now (out .entry)) r (now (block .exit)) (now (limits .exit)) (now (out .exit)) ⌝ }
 {
     match ask {
         Ask::Stop => p,
         Ask::Write => after_write(p, write_on(out, p.from, p.to)),
-        Ask::Read => {
-            let gave = read_on(block, p.filled);
-            after_read(p, gave, block, angles, flags, out)
-        }
+        Ask::Read => read_turn(p, block, limits, angles, flags, out),
     }
 }
 
 // Calls until nothing more is asked. (No run comes to the last count.)
-fn serve(block: &mut [u8], angles: &mut [f64], flags: &mut [u8], out: &mut Buffer) -> Progress
+fn serve(
+    block: &mut [u8],
+    limits: &mut Limits,
+    angles: &mut [f64],
+    flags: &mut [u8],
+    out: &mut Buffer,
+) -> Progress
     requires { ⌜ (length (now block) ≡ 512) × (length (now out) ≡ 106608) × (length (now angles) ≡ 6144) × (length (now flags) ≡ 1024) ⌝ }
-    ensures { λ r. ⌜ Served (standing r (now (block .exit)) (now (out .exit))) (2 ^ 64 - 2) ⌝ }
+    ensures { λ r. ⌜ Served (standing r (now (block .exit)) (now (limits .exit)) (now (out .exit))) (2 ^ 64 - 2) ⌝ }
 {
     let mut p = start();
     let mut calls: u64 = 0;
@@ -73,7 +94,7 @@ fn serve(block: &mut [u8], angles: &mut [f64], flags: &mut [u8], out: &mut Buffe
         if let Ask::Stop = ask {
             return p;
         }
-        p = turn(p, ask, block, angles, flags, out);
+        p = turn(p, ask, block, limits, angles, flags, out);
         calls += 1;
     }
     p
@@ -96,11 +117,12 @@ fn tell(p: Progress) {
     }
 }
 
-// Space for a block, for 1,024 answers and for their lines.
+// Space for a block, for limits, for 1,024 answers and for their lines.
 pub fn run() {
     let mut block = [0u8; 512];
+    let mut limits = [0.0; 12];
     let mut angles = [0.0; 6144];
     let mut flags = [0u8; 1024];
     let mut out = [0u8; 106608];
-    tell(serve(&mut block, &mut angles, &mut flags, &mut out));
+    tell(serve(&mut block, &mut limits, &mut angles, &mut flags, &mut out));
 }

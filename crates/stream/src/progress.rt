@@ -1,19 +1,26 @@
 // What the program makes of each call of the system: from the bytes that were read so far and the
 // number that the call gave, what to print and how to go on.
+use limits_block::take_limits;
 use lines::Buffer;
 use lines::lines;
 ghost use mathlib.Core.Path.{_≡_};
-ghost use mathlib.Core.Bool.{true, false};
+ghost use mathlib.Core.Bool.{true, false, cond};
 ghost use Prim.Native.Nat.{_+_, _-_, _≤_, _<_, _^_};
 ghost use lib.ListN.{length, take, drop};
-ghost use Rattle.stream.specs.Standing.{received, closed, heard, count, after-read};
-ghost use Rattle.stream.specs.Progress.{standing, failing, wrote, Sound, Ready, Went, Asked};
+ghost use Rattle.text.specs.Text.{Put};
+ghost use Rattle.lines.specs.Lines.{lines};
+ghost use Rattle.stream.specs.Standing.{full, received, closed, heard, count, after-read};
+ghost use Rattle.stream.specs.Progress.{held, standing, failing, wrote, Sound, Ready, Went, Asked};
+
+// Space for the limits in force: twelve numbers, where there are any.
+pub type Limits = [f64; 12];
 
 // How the program stands between two calls: of the block at `place` the first `filled` bytes were
-// read; of the buffer the bytes from `from` to `to` are still to be written, and as long as there
-// are any nothing is read.
+// read; limits are in force exactly if it is `limited`; of the buffer the bytes from `from` to `to`
+// are still to be written, and as long as there are any nothing is read.
 pub struct Progress {
     pub place: u64,
+    pub limited: bool,
     pub filled: usize,
     pub from: usize,
     pub to: usize,
@@ -55,10 +62,11 @@ fn count(gave: Heard) -> usize
 
 // Before the first call.
 pub fn start() -> Progress
-    ensures { λ r. ⌜ r ≡ (record { place = 0; filled = 0; from = 0; to = 0; ended = false; failed = false }) ⌝ }
+    ensures { λ r. ⌜ r ≡ (record { place = 0; limited = false; filled = 0; from = 0; to = 0; ended = false; failed = false }) ⌝ }
 {
     Progress {
         place: 0,
+        limited: false,
         filled: 0,
         from: 0,
         to: 0,
@@ -72,6 +80,7 @@ fn failing(p: Progress) -> Progress
 {
     Progress {
         place: p.place,
+        limited: p.limited,
         filled: p.filled,
         from: p.from,
         to: p.to,
@@ -91,6 +100,7 @@ pub fn after_write(p: Progress, gave: Heard) -> Progress
     }
     Progress {
         place: p.place,
+        limited: p.limited,
         filled: p.filled,
         from: p.from + took,
         to: p.to,
@@ -99,21 +109,47 @@ pub fn after_write(p: Progress, gave: Heard) -> Progress
     }
 }
 
+// How many of the numbers lent for limits are in force.
+fn held(limited: bool) -> usize
+    ensures { λ r. ⌜ r ≡ held limited ⌝ }
+{
+    if limited { 12 } else { 0 }
+}
+
+// The lines of a block, with the limits in force.
+fn print(
+    p: Progress,
+    block: &[u8],
+    limits: &[f64],
+    angles: &mut [f64],
+    flags: &mut [u8],
+    out: &mut Buffer,
+) -> usize
+    requires { ⌜ (length (now limits) ≡ 12) × (length (now angles) ≡ 6144) × (length (now flags) ≡ 1024) ⌝ }
+    ensures { λ r. ⌜ Put (lines (now (block .entry)) (p .place) (take (held (p .limited)) (now (limits .entry)))) 0 (now (out .entry)) (now (out .exit)) r ⌝ }
+    ensures { λ r. ⌜ r ≤ 106608 ⌝ }
+{
+    let held = held(p.limited);
+    lines(block, p.place, &limits[..held], angles, flags, out)
+}
+
 // The input has ended: a block that was begun is a short last one.
 fn close(
     p: Progress,
     block: &[u8],
+    limits: &Limits,
     angles: &mut [f64],
     flags: &mut [u8],
     out: &mut Buffer,
 ) -> Progress
     requires { ⌜ Ready p (now block) (now out) (now angles) (now flags) ⌝ }
-    ensures { λ r. ⌜ Went (closed (standing p (now (block .entry)) (now (out .entry)))) r (p .place) (now (block .entry)) (now (out .exit)) ⌝ }
+    ensures { λ r. ⌜ Went (closed (standing p (now (block .entry)) (now (limits .entry)) (now (out .entry)))) r (p .place) (now (block .entry)) (now (limits .entry)) (now (out .exit)) ⌝ }
 {
     let filled = p.filled;
     if filled == 0 {
         return Progress {
             place: p.place,
+            limited: p.limited,
             filled: 0,
             from: 0,
             to: 0,
@@ -121,13 +157,47 @@ fn close(
             failed: p.failed,
         };
     }
-    let m = lines(&block[..filled], p.place, angles, flags, out);
+    let m = print(p, &block[..filled], limits, angles, flags, out);
     Progress {
         place: p.place,
+        limited: p.limited,
         filled: 0,
         from: 0,
         to: m,
         ended: true,
+        failed: p.failed,
+    }
+}
+
+// The place of the block after one; limits that were accepted take none.
+fn place_after(place: u64, accepted: bool) -> u64
+    requires { ⌜ place + 1 < 2 ^ 64 ⌝ }
+    ensures { λ r. ⌜ r ≡ cond accepted place (place + 1) ⌝ }
+{
+    if accepted { place } else { place + 1 }
+}
+
+// A block is full: its lines are to be written, and limits that it brings are in force from here.
+fn fill(
+    p: Progress,
+    block: &[u8],
+    limits: &mut Limits,
+    angles: &mut [f64],
+    flags: &mut [u8],
+    out: &mut Buffer,
+) -> Progress
+    requires { ⌜ Ready p (now block) (now out) (now angles) (now flags) × (p .place + 1 < 2 ^ 64) ⌝ }
+    ensures { λ r. ⌜ Went (full (standing p (now (block .entry)) (now (limits .entry)) (now (out .entry))) (now (block .entry))) r (p .place) (now (block .entry)) (now (limits .exit)) (now (out .exit)) ⌝ }
+{
+    let m = print(p, block, limits, angles, flags, out);
+    let accepted = take_limits(block, limits);
+    Progress {
+        place: place_after(p.place, accepted),
+        limited: p.limited | accepted,
+        filled: 0,
+        from: 0,
+        to: m,
+        ended: p.ended,
         failed: p.failed,
     }
 }
@@ -137,27 +207,21 @@ fn take_in(
     p: Progress,
     n: usize,
     block: &[u8],
+    limits: &mut Limits,
     angles: &mut [f64],
     flags: &mut [u8],
     out: &mut Buffer,
 ) -> Progress
     requires { ⌜ Ready p (now block) (now out) (now angles) (now flags) × (p .filled + n ≤ 512) × (p .place + 1 < 2 ^ 64) ⌝ }
-    ensures { λ r. ⌜ Went (received (standing p (now (block .entry)) (now (out .entry))) (take n (drop (p .filled) (now (block .entry))))) r (p .place) (now (block .entry)) (now (out .exit)) ⌝ }
+    ensures { λ r. ⌜ Went (received (standing p (now (block .entry)) (now (limits .entry)) (now (out .entry))) (take n (drop (p .filled) (now (block .entry))))) r (p .place) (now (block .entry)) (now (limits .exit)) (now (out .exit)) ⌝ }
 {
     let filled = p.filled + n;
     if filled == 512 {
-        let m = lines(block, p.place, angles, flags, out);
-        return Progress {
-            place: p.place + 1,
-            filled: 0,
-            from: 0,
-            to: m,
-            ended: p.ended,
-            failed: p.failed,
-        };
+        return fill(p, block, limits, angles, flags, out);
     }
     Progress {
         place: p.place,
+        limited: p.limited,
         filled: filled,
         from: 0,
         to: 0,
@@ -171,20 +235,21 @@ pub fn after_read(
     p: Progress,
     gave: Heard,
     block: &[u8],
+    limits: &mut Limits,
     angles: &mut [f64],
     flags: &mut [u8],
     out: &mut Buffer,
 ) -> Progress
     requires { ⌜ Ready p (now block) (now out) (now angles) (now flags) × (p .filled + count gave ≤ 512) × (p .place + 1 < 2 ^ 64) ⌝ }
-    ensures { λ r. ⌜ Went (after-read (standing p (now (block .entry)) (now (out .entry))) gave (drop (p .filled) (now (block .entry)))) r (p .place) (now (block .entry)) (now (out .exit)) ⌝ }
+    ensures { λ r. ⌜ Went (after-read (standing p (now (block .entry)) (now (limits .entry)) (now (out .entry))) gave (drop (p .filled) (now (block .entry)))) r (p .place) (now (block .entry)) (now (limits .exit)) (now (out .exit)) ⌝ }
 {
     match gave {
         Heard::Failed => failing(p),
         Heard::Bytes(n) => {
             if n == 0 {
-                close(p, block, angles, flags, out)
+                close(p, block, limits, angles, flags, out)
             } else {
-                take_in(p, n, block, angles, flags, out)
+                take_in(p, n, block, limits, angles, flags, out)
             }
         }
     }

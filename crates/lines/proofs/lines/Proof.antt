@@ -1,49 +1,30 @@
--- `lines`: the first line, and those of the answers in the lists.
-use Prim.Native.Nat.{ℕ, min}
-use mathlib.Core.Path.{_≡_, ap, _∙_}
+-- `lines`: by whether the block is a limits block.
+use Prim.Native.Nat.{ℕ}
+use mathlib.Core.Path.{_≡_}
+use mathlib.Core.Bool.{Bool, true, false}
 use mathlib.Core.List.{List}
 use borrow.Author.Needs.{needs}
 use lib.Ieee.{Float}
-use lib.ListN.{length}
-use Rattle.answers.specs.Written.{room, written, flagged}
-use Rattle.solve.specs.declared.Solved.{Solved}
+use Rattle.limits_block.specs.LimitsBlock.{is-limits}
 use Rattle.text.specs.Text.{Put}
-use Rattle.text.specs.Lists.{head, lines-of}
-use Rattle.solve_block.specs.SolveBlock.{solve-block, block-answers}
-use Rattle.solve_block.proofs.Counted.{counted}
-use Rattle.lines.specs.Lines.{lines}
-use Rattle.text.proofs.Laws.{both}
-use Rattle.lines.proofs.Printed.{printed}
+use Rattle.lines.specs.Lines.{pose-lines, limits-lines, lines}
 use Rattle.lines.proofs.lines.Statement.{statement}
 use Rattle.lines.proofs.lines.Tie as tie
 
-space : (a : List Float) (f : List ℕ) → length a ≡ 6144 → length f ≡ 1024 → room a f ≡ 1024
-unfolding room
-space a f a-long f-long = rw (a-long, f-long)
+module _ (bytes : List ℕ) (place : ℕ) (limits : List Float) {out₀ out : List ℕ} {r : ℕ} {t : Bool} (e : t ≡ is-limits bytes) where
+  of-limits : t ≡ true → Put (limits-lines bytes place) 0 out₀ out r → Put (lines bytes place limits) 0 out₀ out r
+  unfolding lines
+  of-limits y p = rw (← e, y) p
 
-met : (bytes : List ℕ) (place : ℕ) (a : List Float) (f : List ℕ)
-    {a′ : List Float}
-    {f′ out₀ out1 out : List ℕ}
-    {s : Solved}
-    {m k r : ℕ}
-    → length a ≡ 6144
-    → length f ≡ 1024
-    → s ≡ solve-block bytes (room a f)
-    → a′ ≡ written (block-answers bytes) a f
-    → f′ ≡ flagged (block-answers bytes) a f
-    → Put (head place (s .refusal) (s .answers) (s .evals)) 0 out₀ out1 m
-    → k ≡ min (s .answers) 1024
-    → Put (lines-of a′ f′ k) m out1 out r
-    → Put (lines bytes place) 0 out₀ out r
-unfolding lines
-met bytes place a f {k = k} a-long f-long e-s e-a e-f p e-k q =
-    let e = rw (space a f a-long f-long) at e-s in
-    let count = e-k ∙ ap (λ (x : Solved). min (x .answers) 1024) e ∙ ap (λ (x : ℕ). min x 1024) (counted bytes 1024) in
-    let q′ = rw (e-a, e-f, printed (block-answers bytes) a f {n = k} a-long f-long count) at q in
-    both (rw e at p) q′
+  of-pose : t ≡ false → Put (pose-lines bytes place limits) 0 out₀ out r → Put (lines bytes place limits) 0 out₀ out r
+  unfolding lines
+  of-pose n p = rw (← e, n) p
 
 returns : tie.Need-returns
-returns c = (search met, search needs)
+returns c = (search of-limits, search needs)
+
+returns-2 : tie.Need-returns-2
+returns-2 c = (search of-pose, search needs)
 
 pub lines-spec : {M : Type 1} → statement M
 lines-spec =
@@ -51,8 +32,8 @@ lines-spec =
     (tie.spec
     (λ _ _. tt)
     (λ _ _. tt)
-    (λ _ _. tt)
+    returns
     (λ c κs. search needs)
     (λ c. search needs)
     (λ c. search needs)
-    returns)
+    returns-2)

@@ -9,11 +9,11 @@ use Rattle.stream.proofs.calls.serve.Statement.{statement}
 use Rattle.stream.proofs.calls.serve.Tie as tie
 
 abbrev Inv-loop : tie.InvT-loop
-Inv-loop block₀ angles₀ flags₀ out₀ p₀ calls₀ block angles flags out p calls =
-    (length block ≡ 512) × (length angles ≡ 6144) × (length flags ≡ 1024) × (calls ≤ 2 ^ 64 - 2) × Reached p block out angles flags calls
+Inv-loop block₀ limits₀ angles₀ flags₀ out₀ p₀ calls₀ block limits angles flags out p calls =
+    (length block ≡ 512) × (length angles ≡ 6144) × (length flags ≡ 1024) × (calls ≤ 2 ^ 64 - 2) × Reached p block limits out angles flags calls
 
 abbrev μ-loop : tie.MeasureT-loop
-μ-loop block₀ angles₀ flags₀ out₀ p₀ calls₀ block angles flags out p calls = 2 ^ 64 - calls
+μ-loop block₀ limits₀ angles₀ flags₀ out₀ p₀ calls₀ block limits angles flags out p calls = 2 ^ 64 - calls
 
 start-requires : tie.Need-start-requires Inv-loop μ-loop
 start-requires c κs = search needs

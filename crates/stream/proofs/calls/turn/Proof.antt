@@ -1,7 +1,7 @@
 -- `turn`: the call that was asked.
 use native.Mathlib.Omega.{arith}
 use borrow.Author.Needs.{needs}
-use Rattle.stream.proofs.Steps.{ready-again, room-again, turned-stop, turned-write, turned-read}
+use Rattle.stream.proofs.Steps.{asked-read, turned-stop, turned-write}
 use Rattle.stream.proofs.calls.turn.Statement.{statement}
 use Rattle.stream.proofs.calls.turn.Tie as tie
 
@@ -11,20 +11,17 @@ write-on-requires c κs = (omega arith, omega arith)
 after-write-requires : tie.Need-after-write-requires
 after-write-requires c κs = search needs
 
-read-on-requires : tie.Need-read-on-requires
-read-on-requires c κs = omega arith
-
-after-read-requires : tie.Need-after-read-requires
-after-read-requires c κs = (search ready-again, search room-again, search needs)
+read-turn-requires : tie.Need-read-turn-requires
+read-turn-requires c κs = (search needs, search needs, search asked-read)
 
 returns : tie.Need-returns
-returns c = search (turned-stop, turned-write, turned-read)
+returns c = search (turned-stop, turned-write)
 
 returns-2 : tie.Need-returns-2
-returns-2 c = search (turned-stop, turned-write, turned-read)
+returns-2 c = search (turned-stop, turned-write)
 
 returns-3 : tie.Need-returns-3
-returns-3 c = search (turned-stop, turned-write, turned-read)
+returns-3 c = search needs
 
 pub turn-spec : {M : Type 1} → statement M
-turn-spec = tie.close (tie.spec (λ c. search needs) (λ c. search needs) write-on-requires after-write-requires (λ c. search needs) read-on-requires after-read-requires returns returns-2 (λ c. search needs) (λ c. search needs) (λ c. search needs) returns-3)
+turn-spec = tie.close (tie.spec (λ c. search needs) (λ c. search needs) write-on-requires after-write-requires (λ c. search needs) read-turn-requires returns returns-2 (λ c. search needs) (λ c. search needs) (λ c. search needs) returns-3)

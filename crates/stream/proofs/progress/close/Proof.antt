@@ -8,11 +8,11 @@ use Rattle.stream.proofs.progress.close.Tie as tie
 returns : tie.Need-returns
 returns c = search closes-none
 
-slice-aggregate-lines : tie.Need-slice-aggregate-lines
-slice-aggregate-lines c = part _ _ (omega arith)
+slice-aggregate-print : tie.Need-slice-aggregate-print
+slice-aggregate-print c = part _ _ (omega arith)
 
-lines-requires : tie.Need-lines-requires
-lines-requires c κs = search needs
+print-requires : tie.Need-print-requires
+print-requires c κs = search needs
 
 same-length : tie.Need-same-length
 same-length c = search needs
@@ -24,4 +24,4 @@ returns-2 : tie.Need-returns-2
 returns-2 c = search closes-short
 
 pub close-spec : {M : Type 1} → statement M
-close-spec = tie.close (tie.spec returns slice-aggregate-lines lines-requires same-length same-length-2 returns-2)
+close-spec = tie.close (tie.spec returns slice-aggregate-print print-requires same-length same-length-2 returns-2)

@@ -7,11 +7,8 @@ use Rattle.stream.proofs.progress.take_in.Tie as tie
 add-filled : tie.Need-add-filled
 add-filled c = search needs
 
-lines-requires : tie.Need-lines-requires
-lines-requires c κs = search needs
-
-add-t15 : tie.Need-add-t15
-add-t15 c = search needs
+fill-requires : tie.Need-fill-requires
+fill-requires c κs = search needs
 
 same-length : tie.Need-same-length
 same-length c = search needs
@@ -26,4 +23,4 @@ returns-2 : tie.Need-returns-2
 returns-2 c = search begins
 
 pub take-in-spec : {M : Type 1} → statement M
-take-in-spec = tie.close (tie.spec add-filled lines-requires add-t15 same-length same-length-2 returns returns-2)
+take-in-spec = tie.close (tie.spec add-filled fill-requires same-length same-length-2 returns returns-2)
