@@ -2,9 +2,6 @@
 use crate::record;
 ghost use Prim.Native.Nat.{_<_, _≤_};
 
-// What subproblem1 flags by.
-const TOLERANCE: f64 = 1e-6;
-
 fn is_answer(book: &[u8; 1830400], j: usize, angles: &[f64; 105600], flag: u8) -> bool
     requires { ⌜ j < 17600 ⌝ }
 {
@@ -47,11 +44,14 @@ pub(crate) fn check(
 {
     let mut angles = [0.0; 105600];
     let mut flags = [0u8; 17600];
-    let kin = record::arm(head);
-    let r = record::rotation(head);
-    let p = record::place(head);
-    let c = family6::two_parallel(r, p, kin, TOLERANCE, n, &mut angles, &mut flags);
-    let ok = record::counts(head, c.answers as u64, c.evals);
+    let mut qs = [0.0; 17600];
+    let mut cs = [0u8; 17600];
+    let arm = record::arm_numbers(head);
+    let pose = record::pose_numbers(head);
+    let list = full_list::search(n, &arm, &pose, &mut qs, &mut cs);
+    let none = &arm[0..0];
+    let k = full_list::write_allowed(list, &arm, &pose, &qs, &cs, none, &mut angles, &mut flags);
+    let ok = record::counts(head, k as u64, list.evals);
     cases::count(tally, record::CHECKS, record::SOLVES, ok);
     check_answers(book, m, &angles, &flags, tally);
 }

@@ -52,21 +52,30 @@ pub(crate) const ANSWERS: u64 = 7;
 
 pub(crate) const CHECKS: u64 = 8;
 
-pub(crate) fn arm(head: &[u8; 432]) -> Kinematics {
+pub(crate) fn arm_numbers(head: &[u8; 432]) -> [f64; 39] {
     let mut xs = [0.0; 39];
     cases::numbers(head, ARM, &mut xs);
+    xs
+}
+
+pub(crate) fn pose_numbers(head: &[u8; 432]) -> [f64; 12] {
+    let mut xs = [0.0; 12];
+    cases::numbers(head, POSE, &mut xs);
+    xs
+}
+
+pub(crate) fn arm(head: &[u8; 432]) -> Kinematics {
+    let xs = arm_numbers(head);
     kinematics::from_numbers(&xs)
 }
 
 pub(crate) fn rotation(head: &[u8; 432]) -> Matrix3 {
-    let mut xs = [0.0; 12];
-    cases::numbers(head, POSE, &mut xs);
+    let xs = pose_numbers(head);
     kinematics::pose_rotation(&xs)
 }
 
 pub(crate) fn place(head: &[u8; 432]) -> Vector3 {
-    let mut xs = [0.0; 12];
-    cases::numbers(head, POSE, &mut xs);
+    let xs = pose_numbers(head);
     kinematics::pose_place(&xs)
 }
 
