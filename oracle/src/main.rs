@@ -6,6 +6,7 @@ mod arms;
 mod bench;
 mod beside;
 mod block;
+mod calls;
 mod cases;
 mod complex;
 mod differ;
@@ -55,6 +56,8 @@ usage: oracle COMMAND
   stand-in N                             the same for an error that is easy to write down
   call NAME                              run one function on each line of hexadecimal arguments
   call --list                            the functions with their argument words
+  calls                                  run the library's calls, one on each line
+  calls --list                           how these lines and those of the results are written
   generate KIND FAMILY SEED COUNT [N]    blocks; KIND is reachable, unreachable, bent, random,
                                          hostile, headers, degenerate or round; --limits puts
                                          limits blocks among them
@@ -177,6 +180,8 @@ fn command<A: Arith>(line: &CommandLine, output: &mut impl Write) -> Result<(), 
             ))
         }
         ["call"] if line.list => told(list_functions(output)),
+        ["calls"] if line.list => told(output.write_all(calls::FORMAT.as_bytes())),
+        ["calls"] => told(calls::run_lines::<A>(&mut io::stdin().lock(), output)),
         ["call", name] => {
             let function = functions::by_name(name).ok_or(format!("no function {name}"))?;
             call::<A>(function, &mut io::stdin().lock(), output)
