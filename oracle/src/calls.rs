@@ -451,7 +451,7 @@ mod tests {
             (format!("solve 1 1 {bad} {short_pose} - 6 1"), 6),
             (format!("solve 1 1 {bad} {pose} {wide} 6 1"), 7),
             (format!("solve 1 0 {bad} {pose} {wide} 6 1"), 8),
-            (format!("solve 6 0 - - - 6 1"), 5),
+            ("solve 6 0 - - - 6 1".to_string(), 5),
         ] {
             assert_eq!(run(&line), format!("solve refusal {refusal} {none}"));
         }

@@ -13,6 +13,7 @@ mod differ;
 mod errors;
 mod functions;
 mod generate;
+mod generate_calls;
 mod inputs;
 mod inverse;
 mod inverse_kinematics;
@@ -58,6 +59,7 @@ usage: oracle COMMAND
   call --list                            the functions with their argument words
   calls                                  run the library's calls, one on each line
   calls --list                           how these lines and those of the results are written
+  generate-calls SEED COUNT              such lines: good calls, and calls with every fault
   generate KIND FAMILY SEED COUNT [N]    blocks; KIND is reachable, unreachable, bent, random,
                                          hostile, headers, degenerate or round; --limits puts
                                          limits blocks among them
@@ -180,6 +182,11 @@ fn command<A: Arith>(line: &CommandLine, output: &mut impl Write) -> Result<(), 
             ))
         }
         ["call"] if line.list => told(list_functions(output)),
+        ["generate-calls", seed, count] => {
+            let (seed, count) = (number(seed)?, number(count)?);
+            let mut calls = (0..count).map(|place| generate_calls::call(seed, place));
+            told(calls.try_for_each(|call| writeln!(output, "{call}")))
+        }
         ["calls"] if line.list => told(output.write_all(calls::FORMAT.as_bytes())),
         ["calls"] => told(calls::run_lines::<A>(&mut io::stdin().lock(), output)),
         ["call", name] => {
