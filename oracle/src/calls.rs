@@ -298,8 +298,11 @@ fn bytes(word: &str) -> Result<Vec<u8>, String> {
     if word == EMPTY {
         return Ok(Vec::new());
     }
-    let pairs = word.as_bytes().chunks(2);
-    pairs
+    if word.is_empty() {
+        return Err("an empty list of bytes is '-'".to_string());
+    }
+    word.as_bytes()
+        .chunks(2)
         .map(|pair| {
             let digits = String::from_utf8_lossy(pair);
             hexadecimal(&digits, 2).map(|byte| byte as u8)
@@ -422,6 +425,7 @@ mod tests {
             ("solve 1 0 3ff0000000000000, - - 0 0", "'' is not 16"),
             ("limits_block 0", "'0' is not 2 hexadecimal digits"),
             ("limits_block +1", "'+1' is not 2"),
+            ("limits_block ", "an empty list of bytes is '-'"),
             ("solve_block - - 0", "4 words"),
         ] {
             let wrong = Call::parse(line).unwrap_err();

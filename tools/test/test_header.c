@@ -4,6 +4,7 @@
  * how many checks were made.
  */
 #include <fenv.h>
+#include <float.h>
 #include <math.h>
 #include <pthread.h>
 #include <stdio.h>
@@ -227,6 +228,24 @@ static void good_limits(void)
           "the evaluations are those without limits");
 }
 
+/* An arm of family 5 whose axes 5 and 6 meet as the header says: every answer of this pose is NaN. */
+static void nans(void)
+{
+    static const double meeting[SAIHKEB_ARM] = {
+        0, 0, 1,   1, 0, 0,    1, 0, 0,      1, 0, 0,   0, 0, 1,         1, 0, 0,
+        0, 0, 0.2, 0.12, 0, 0, -0.03, 0, 0.5, 0, 0, 0.45, 0.07, 0.02, 0.1, 0.04, 0, 0.03, 0.08, 0, 0,
+    };
+    const double made[SAIHKEB_ANGLES] = {0.5, -0.35, 0.25, 0.7, -1, 1.3};
+    double at[SAIHKEB_POSE], widest[SAIHKEB_LIMITS];
+    for (int i = 0; i < SAIHKEB_LIMITS; i++)
+        widest[i] = i % 2 ? DBL_MAX : -DBL_MAX;
+    check(saihkeb_forward_kinematics(meeting, SAIHKEB_ARM, made, SAIHKEB_ANGLES, at, SAIHKEB_POSE) == 0, "a pose");
+    check(solve(5, 0, meeting, at) == 0 && counts[0] > 0 && isnan(angles[0]), "answers that are NaN");
+    clear();
+    check(saihkeb_solve(5, 0, meeting, SAIHKEB_ARM, at, SAIHKEB_POSE, widest, SAIHKEB_LIMITS, angles, 6 * ROOM, flags,
+                        ROOM, counts) == 0 && counts[0] == 0 && kept(0), "a NaN is outside the widest limits");
+}
+
 static void put_check(uint8_t *block)
 {
     uint64_t word, sum = 0;
@@ -427,6 +446,7 @@ int main(void)
     lists();
     bad_limits();
     good_limits();
+    nans();
     blocks();
     blocks_under_limits();
     limits_blocks();
