@@ -74,8 +74,8 @@
  *   a NaN. Limits are the customer's; the published solver has none.
  *   They are compared with the angles as they stand: NOTHING IS TURNED BY 2 PI. An angle that is not NaN
  *   is from -PI to PI, both ends among them, PI being the f64 nearest to pi (3.141592653589793); only q1
- *   of family 6, which a search finds, may lie some last places beyond (3.141592653589795 was seen;
- *   tools/measure/claims.py angles). So
+ *   of family 6, which a search finds, may lie some last places beyond (3.1415926535897944 is the farthest
+ *   in tools/measure/claims.py angles). So
  *   - a joint without stops gets -4 and 4, and not -PI and PI;
  *   - a high above PI brings no answer from the other side: under limits of 2 and 4 an answer at -3 leaves
  *     the list, though a joint at -3 stands where it stands at 2 pi - 3 = 3.28. Solve for such a joint a

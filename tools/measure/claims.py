@@ -268,10 +268,34 @@ def longest(t, name):
               f" {sum(evaluations) / count:.0f} on average, {max(evaluations)} at most", most <= 44 * n)
 
 
+def angles(t, name):
+    """Every angle that is not NaN, in poses from random and from round angles and of hostile numbers."""
+    import check_flags
+    import subprocess
+    for family in FAMILIES:
+        at_pi = beyond = poses = 0
+        farthest = 0.0
+        for kind in ("reachable", "round", "hostile"):
+            for n, count in ((25, 2000), (50, 2000), (200, 500)) if family == 6 else ((0, 5000),):
+                words = [check_flags.ORACLE, "generate", kind, str(family), str(t.seed), str(count)]
+                made = subprocess.run(words + [str(n)] * (family == 6), capture_output=True, check=True).stdout
+                for result in sheet.read_results(blocks.run(t.words, made), count):
+                    for answer, _ in result.angles:
+                        sizes = [0.0 if math.isnan(q) else abs(q) for q in answer]
+                        at_pi += math.pi in sizes
+                        beyond += any(size > math.pi for size in sizes[family == 6 :])
+                        farthest = max(farthest, *sizes)
+                poses += count
+        text = f"family {family}, {poses} poses: {at_pi} answers with an angle at PI or -PI, {beyond} with one beyond"
+        text += f" but for q1, which comes to {farthest!r}" if family == 6 else ""
+        t.say(name, text, at_pi and not beyond and farthest < math.pi + 1e-12)
+
+
 CLAIMS = {
     "lengths": lengths, "length-example": length_example, "rotations": rotations, "unread": unread,
     "left-out": left_out, "opposite": opposite, "told": told, "parallel": parallel, "plane": plane,
     "turned-wrist": turned_wrist, "home": home, "straight": straight, "unit": unit, "longest": longest,
+    "angles": angles,
 }
 
 
