@@ -71,7 +71,7 @@
  *   high 6), or none: NULL, 0. An answer is inside where low <= q and q <= high for each of its six
  *   angles. An end is inside, a NaN is outside, a low may equal its high, and -0.0 equals 0.0. The answers
  *   outside leave the list; the others stay as they are and in their order. So with limits no answer has
- *   a NaN. Limits are the customer's; the published solver has none.
+ *   a NaN. Without limits a list is that of the published solver, which knows none.
  *   They are compared with the angles as they stand: NOTHING IS TURNED BY 2 PI. An angle that is not NaN
  *   is from -PI to PI, both ends among them, PI being the f64 nearest to pi (3.141592653589793); only q1
  *   of family 6, which a search finds, may lie some last places beyond (3.1415926535897944 is the farthest
