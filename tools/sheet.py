@@ -36,18 +36,19 @@ the solver gets the nearest f64 of what is written. Lengths have any one unit.
                        first try; computed here, not by the proved program
 
 Limits: an answer is shown where each angle is at or between the two limits of its joint; one with an angle
-that is not a number is not. The table says how many the limits removed. For that the program is run a
-second time, without limits; --lines and --blocks are of the first run. An answer's angles are from -180 to
-180 degrees, both among them, and nothing is turned: limits of 90 and 270 remove an answer at -170, which
-stands where 190 is. q1 of family 6 may lie some last places beyond 180. So a joint without stops gets -200
-and 200. The program compares in radians: each limit is converted as every angle of a sheet is, by Python's
-math.radians, and an answer that is shown at a limit may be beyond it in a later place than is shown.
+that is not a number is not. The table says how many the limits removed, and where none that is left makes
+the pose, how many of the removed do. For that the program is run a second time, without limits; --lines and
+--blocks are of the first run. An answer's angles are from -180 to 180 degrees, both among them, and nothing
+is turned: limits of 90 and 270 remove an answer at -170, which stands where 190 is. q1 of family 6 may lie
+some last places beyond 180. So a joint without stops gets -200 and 200. The program compares in radians:
+each limit is converted as every angle of a sheet is, by Python's math.radians, and an answer that is shown
+at a limit may be beyond it in a later place than is shown.
 
 An answer is held against its pose here, and marked: 'MISSES the pose' where its own place is off by more
 than a millionth of the arm's size (the sum of the offsets' lengths) or its rotation by more than 0.0001
 degrees, with the solver's flag ('least squares') or without one ('no flag'); 'NO ANSWER' where an angle is
-not a number. Notes on an arm that is not of its family, or that the family solves badly, go to standard
-error.
+not a number. Notes on an arm that is not of its family, or that the family solves badly, and on limits
+beyond 180 degrees go to standard error.
 """
 
 import argparse

@@ -494,7 +494,8 @@ class Tables(unittest.TestCase):
 
     def head(self, inside, all_of_them, evals=0, text=ARM + LIMITS + POSE):
         """The first line of a pose with so many answers inside its limits, and of all."""
-        lists = [[f"block 0 refusal 0 answers {n} evals {evals}"] + [line([0.5] * 6, 0)] * n for n in (inside, all_of_them)]
+        lists = [[f"block 0 refusal 0 answers {n} evals {evals}"] + [line([0.5] * 6, 0)] * n
+                 for n in (inside, all_of_them)]
         return next(text for text in self.shown(text, *lists).splitlines() if text.startswith("Pose"))
 
     def test_what_the_limits_removed(self):
@@ -679,7 +680,8 @@ class WithOracle(unittest.TestCase):
             made = parts(self.oracle("generate", "round", family, "8", "12", "25"))
             for place, block in enumerate(made):
                 text = self.sheet_of(block)
-                ends = [(-160 + 10 * place, 180), (-180, 150), (-180, 180), (-90, 90 + 5 * place), (-180, 180), (0, 180)]
+                ends = [(-160 + 10 * place, 180), (-180, 150), (-180, 180), (-90, 90 + 5 * place), (-180, 180),
+                        (0, 180)]
                 limits = "".join(f"limits {low} {high}\n" for low, high in ends[place % 6 :] + ends[: place % 6])
                 limited = sheet.parse(text.replace("pose", limits + "pose"))
                 inside, = sheet.read_results(blocks.run(program, limited.to_blocks()), 1)
