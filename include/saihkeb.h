@@ -34,7 +34,8 @@
  *             exactly straight or folded, and in family 5 for the arms named below.
  *           So before you move: no angle is NaN, and saihkeb_forward_kinematics at the angles gives the
  *           pose that was asked for, within the tolerance of your machine.
- *   A list, empty or not, may lack answers that the arm has, with refusal 0.
+ *   A list, empty or not, may lack answers that the arm has, with refusal 0. Under limits (below) it is
+ *   empty, too, where every answer is outside: call without limits for their number.
  *   README.md, "What to know before you rely on a list", and docs/DIFFERENCES.md have the figures.
  *
  * FAMILIES, and what an arm of each has
@@ -65,24 +66,43 @@
  *     zero of joint 5 (family 6: joint 4) moved, is solved: README.md, "What to know before you rely
  *     on a list", says how.
  *
+ * LIMITS
+ *   Joint limits are twelve numbers in radians, low then high, joint by joint (low 1, high 1, low 2, ..
+ *   high 6), or none: NULL, 0. An answer is inside where low <= q and q <= high for each of its six
+ *   angles. An end is inside, a NaN is outside, a low may equal its high, and -0.0 equals 0.0. The answers
+ *   outside leave the list; the others stay as they are and in their order. So with limits no answer has
+ *   a NaN. Without limits a list is that of the published solver, which knows none.
+ *   They are compared with the angles as they stand: NOTHING IS TURNED BY 2 PI. An angle that is not NaN
+ *   is from -PI to PI, both ends among them, PI being the f64 nearest to pi (3.141592653589793); only q1
+ *   of family 6, which a search finds, may lie some last places beyond (3.1415926535897944 is the farthest
+ *   in tools/measure/claims.py angles). So
+ *   - a joint without stops gets -4 and 4, and not -PI and PI;
+ *   - a high above PI brings no answer from the other side: under limits of 2 and 4 an answer at -3 leaves
+ *     the list, though a joint at -3 stands where it stands at 2 pi - 3 = 3.28. Solve for such a joint a
+ *     second time, with 2 pi taken from its two limits, and add 2 pi to its angle in each answer. For a
+ *     low below -PI it is the other way round.
+ *
  * LISTS
  *   A list is a pointer and the number of its elements (not bytes). It may have any length, and
  *   each call judges the lengths. A null pointer is an empty list, whatever its length says. Else the
  *   pointer must be aligned for its type and lead to that many elements. What a call writes to must
- *   not overlap anything else that the same call is lent. counts is never null. Every number may have
- *   any bits.
+ *   not overlap anything else that the same call is lent. counts, and the twelve numbers that
+ *   saihkeb_limits_block writes, are never null. Every number may have any bits.
  *
- * REFUSALS, the first that applies
+ * REFUSALS, the first that applies in this order: 10 comes before 4
  *    0  none
- *    1  the block has fewer than 512 bytes                                         block call
- *    2  word 63 of the block is not the sum of words 0 to 62 modulo 2^64           block call
- *    3  a reserved byte of the block is not zero                                   block call
+ *    1  the block has fewer than 512 bytes                                        block calls
+ *    2  word 63 of the block is not the sum of words 0 to 62 modulo 2^64          block calls
+ *    3  a byte of the block that must be zero is not, or it is of the other kind  block calls
+ *   10  the limits are neither twelve numbers nor none, or one of them is infinite or NaN, or a low is
+ *       above its high
  *    4  the family is not 1 to 6
  *    5  the arm is not 39 numbers
  *    6  the pose is not 12 numbers
  *    7  n is not 0 for families 1 to 5, or not 1 to 400 for family 6
  *    8  a number of the arm or the pose is infinite or NaN
- *    9  there are more answers than the angle list has whole sixes, or than the flag list has bytes
+ *    9  there are more answers inside the limits than the angle list has whole sixes, or than the flag
+ *       list has bytes
  *   18  the angles are not 6 numbers                                               forward kinematics
  *
  * MEMORY AND TIME
@@ -111,6 +131,7 @@ extern "C" {
 #define SAIHKEB_ARM 39
 #define SAIHKEB_POSE 12
 #define SAIHKEB_ANGLES 6
+#define SAIHKEB_LIMITS 12
 #define SAIHKEB_BLOCK 512
 
 /*
@@ -120,62 +141,85 @@ extern "C" {
 uint64_t saihkeb_solve_lent(uint64_t family, uint64_t n,
                             const double *arm, size_t arm_len,
                             const double *pose, size_t pose_len,
+                            const double *limits, size_t limits_len,
                             double *angles, size_t angles_len,
                             uint8_t *flags, size_t flags_len,
                             uint64_t counts[2]);
 uint64_t saihkeb_solve_block_lent(const uint8_t *block, size_t block_len,
+                                  const double *limits, size_t limits_len,
                                   double *angles, size_t angles_len,
                                   uint8_t *flags, size_t flags_len,
                                   uint64_t counts[2]);
+uint64_t saihkeb_limits_block_lent(const uint8_t *block, size_t block_len,
+                                   double limits[SAIHKEB_LIMITS]);
 uint64_t saihkeb_forward_kinematics_lent(const double *arm, size_t arm_len,
                                          const double *angles, size_t angles_len,
                                          double *pose, size_t pose_len);
 
 /*
- * Solves a pose. Gives the refusal.
+ * Solves a pose. Gives the refusal. limits is twelve numbers, or NULL, 0 for none.
  *
- * counts[0] becomes the number of answers in the full list, counts[1] the number of evaluations of
- * the search error (0 but for family 6). Both are always written.
+ * counts[0] becomes the number of answers inside the limits (without limits, of all), counts[1] the
+ * number of evaluations of the search error (0 but for family 6), which limits do not change. Both are
+ * always written.
  *
- * Refusals 4 to 8: both counts are 0, and the two lists keep every value.
+ * Refusals 4 to 8 and 10: both counts are 0, and the two lists keep every value.
  * Refusal 0: the answers stand in the lists, answer i from angles[6 * i] on and in flags[i].
  * Refusal 9: counts[0] is the full number all the same, and the first answers that fit both lists
  * are written. So a call with room for fewer answers gives the first ones, and the number to make
- * room for; with NULL, 0 for both lists it gives the number alone.
+ * room for; with NULL, 0 for both lists it gives the number alone. Answers outside the limits take no
+ * room.
  * Elements past the last answer written keep their values, always.
  */
 static inline uint64_t saihkeb_solve(uint64_t family, uint64_t n,
                                      const double *arm, size_t arm_len,
                                      const double *pose, size_t pose_len,
+                                     const double *limits, size_t limits_len,
                                      double *angles, size_t angles_len,
                                      uint8_t *flags, size_t flags_len,
                                      uint64_t counts[2])
 {
-    double no_arm = 0, no_pose = 0, no_angle = 0;
+    double no_arm = 0, no_pose = 0, no_limit = 0, no_angle = 0;
     uint8_t no_flag = 0;
     return saihkeb_solve_lent(family, n,
                               arm ? arm : &no_arm, arm ? arm_len : 0,
                               pose ? pose : &no_pose, pose ? pose_len : 0,
+                              limits ? limits : &no_limit, limits ? limits_len : 0,
                               angles ? angles : &no_angle, angles ? angles_len : 0,
                               flags ? flags : &no_flag, flags ? flags_len : 0, counts);
 }
 
 /*
- * The same for a block of 512 bytes: 64 little-endian 64-bit words. Word 0 has the family in byte
- * 0 and n in bytes 1 and 2; words 1 to 39 are the arm, 40 to 51 the pose, 63 is the check; the rest
- * is reserved and zero. Bytes past the 512th are not read. Refusals 1 to 3 come first and are as 4
- * to 8: both counts 0, and nothing written to the lists.
+ * The same for a pose block of 512 bytes: 64 little-endian 64-bit words. Word 0 has the family in byte
+ * 0 and n in bytes 1 and 2, and byte 3 is 0; words 1 to 39 are the arm, 40 to 51 the pose, 63 is the
+ * check; the rest is reserved and zero. Bytes past the 512th are not read. Refusals 1 to 3 come first
+ * and are as 4 to 8: both counts 0, and nothing written to the lists. A limits block is 3 here.
  */
 static inline uint64_t saihkeb_solve_block(const uint8_t *block, size_t block_len,
+                                           const double *limits, size_t limits_len,
                                            double *angles, size_t angles_len,
                                            uint8_t *flags, size_t flags_len,
                                            uint64_t counts[2])
 {
-    double no_angle = 0;
+    double no_limit = 0, no_angle = 0;
     uint8_t no_block = 0, no_flag = 0;
     return saihkeb_solve_block_lent(block ? block : &no_block, block ? block_len : 0,
+                                    limits ? limits : &no_limit, limits ? limits_len : 0,
                                     angles ? angles : &no_angle, angles ? angles_len : 0,
                                     flags ? flags : &no_flag, flags ? flags_len : 0, counts);
+}
+
+/*
+ * The numbers of a limits block of 512 bytes, for the two calls above: byte 3 of word 0 is 1, words 1 to
+ * 12 are low then high, joint by joint, 63 is the check; the other bytes of word 0 and words 13 to 62 are
+ * zero. Bytes past the 512th are not read. Gives 0 and writes the twelve numbers, bit for bit; or 1, 2, 3
+ * or 10, in this order, and leaves all twelve as they were. A pose block is 3 here.
+ */
+static inline uint64_t saihkeb_limits_block(const uint8_t *block, size_t block_len,
+                                            double limits[SAIHKEB_LIMITS])
+{
+    uint8_t no_block = 0;
+    return saihkeb_limits_block_lent(block ? block : &no_block, block ? block_len : 0, limits);
 }
 
 /*

@@ -1,7 +1,9 @@
-"""The 512-byte block of the solver program, and how to start that program. Python's library alone.
+"""The 512-byte blocks of the solver program, and how to start that program. Python's library alone.
 
-A block is 64 little-endian words: word 0 has the family in byte 0 and n in bytes 1 and 2; words 1 to
-39 have the arm, 40 to 51 the pose; 52 to 62 are zero; 63 is the sum of the others modulo 2^64.
+A block is 64 little-endian words, and word 63 is the sum of the others modulo 2^64. Byte 3 of word 0 says
+what it is. In a pose block it is 0: word 0 has the family in byte 0 and n in bytes 1 and 2; words 1 to 39
+have the arm, 40 to 51 the pose. In a limits block it is 1: words 1 to 12 have the joint limits, low then
+high, joint by joint. All else is zero.
 """
 
 import os
@@ -13,6 +15,7 @@ import subprocess
 BLOCK_BYTES = 512
 ARM_NUMBERS = 39
 POSE_NUMBERS = 12
+LIMITS_NUMBERS = 12
 ROOM = 1024  # answers that the program has space for
 ROOT = pathlib.Path(__file__).resolve().parent.parent
 
@@ -28,12 +31,19 @@ def repaired(block):
 
 
 def make(family, n, arm, pose):
-    """The block of a family, n, 39 numbers of the arm and 12 of the pose."""
+    """The pose block of a family, n, 39 numbers of the arm and 12 of the pose."""
     if len(arm) != ARM_NUMBERS or len(pose) != POSE_NUMBERS:
         raise ValueError("an arm has 39 numbers and a pose 12")
     head = struct.pack("<BHxxxxx", family, n)
     numbers = struct.pack("<51d", *arm, *pose)
     return repaired(head + numbers + bytes(8 * 12))
+
+
+def make_limits(limits):
+    """The limits block of twelve numbers in radians, low then high, joint by joint."""
+    if len(limits) != LIMITS_NUMBERS:
+        raise ValueError("limits are 12 numbers")
+    return repaired(bytes([0, 0, 0, 1, 0, 0, 0, 0]) + struct.pack("<12d", *limits) + bytes(8 * 51))
 
 
 def command(text=None):

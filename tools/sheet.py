@@ -1,5 +1,5 @@
 #!/usr/bin/env python3
-"""Solves a sheet: a text file with an arm and poses. Shows the joint angles in degrees.
+"""Solves a sheet: a text file with an arm, its joint limits and poses. Shows the joint angles in degrees.
 
     tools/sheet.py [--lines] [--blocks FILE] [--program COMMAND] SHEET
 
@@ -21,6 +21,8 @@ the solver gets the nearest f64 of what is written. Lengths have any one unit.
   h1 X Y Z .. h6     the axes, at zero angles, in base coordinates; length 1
   p0 X Y Z .. p6     the offsets: p0 from the base to a point of axis 1, p1 from there to a point of
                      axis 2, .. p6 from axis 6 to the tool
+  limits LOW HIGH    joint limits in degrees: six such lines, joint 1 first, or none. They hold for the
+                     poses below them, up to the next six; poses above the first have none (see below)
   pose NAME          starts a pose; its name is for the table and may be left out. Then either
     row X Y Z          three times: the rotation by rows
     place X Y Z        where the tool is
@@ -33,11 +35,20 @@ the solver gets the nearest f64 of what is written. Lengths have any one unit.
     from angles A1 .. A6   in degrees: the pose that these joint angles give the arm. A help for a
                        first try; computed here, not by the proved program
 
+Limits: an answer is shown where each angle is at or between the two limits of its joint; one with an angle
+that is not a number is not. The table says how many the limits removed, and where none that is left makes
+the pose, how many of the removed do. For that the program is run a second time, without limits; --lines and
+--blocks are of the first run. An answer's angles are from -180 to 180 degrees, both among them, and nothing
+is turned: limits of 90 and 270 remove an answer at -170, which stands where 190 is. q1 of family 6 may lie
+some last places beyond 180. So a joint without stops gets -200 and 200. The program compares in radians:
+each limit is converted as every angle of a sheet is, by Python's math.radians, and an answer that is shown
+at a limit may be beyond it in a later place than is shown.
+
 An answer is held against its pose here, and marked: 'MISSES the pose' where its own place is off by more
 than a millionth of the arm's size (the sum of the offsets' lengths) or its rotation by more than 0.0001
 degrees, with the solver's flag ('least squares') or without one ('no flag'); 'NO ANSWER' where an angle is
-not a number. Notes on an arm that is not of its family, or that the family solves badly, go to standard
-error.
+not a number. Notes on an arm that is not of its family, or that the family solves badly, and on limits
+beyond 180 degrees go to standard error.
 """
 
 import argparse
@@ -86,6 +97,7 @@ REFUSALS = {
     7: "n does not fit the family: 0 for families 1 to 5, 1 to 400 for family 6",
     8: "a number of the arm or the pose is infinite or not a number",
     9: "there are more answers than the program has space for",
+    10: "the limits are not 12 numbers, or one is infinite or not a number, or a low is above its high",
 }
 NUMBER = re.compile(r"[+-]?([0-9]+\.?[0-9]*|\.[0-9]+)([eE][+-]?[0-9]+)?")
 FLAGGED = "least squares"
@@ -103,9 +115,22 @@ class BadLines(Exception):
 
 
 @dataclasses.dataclass
+class Limits:
+    """The lines 'limits' that stand together: one for each joint, once the sheet is whole."""
+
+    joints: list = dataclasses.field(default_factory=list)  # of the line, low and high in degrees
+    closed: bool = False  # whether a pose stands below them
+
+    def numbers(self):
+        """Low then high, joint by joint, in radians."""
+        return [math.radians(x) for _, low, high in self.joints for x in (low, high)]
+
+
+@dataclasses.dataclass
 class Pose:
     name: str
     line: int
+    limits: Limits = None
     rows: list = dataclasses.field(default_factory=list)
     rpy: list = None
     place: list = None
@@ -117,6 +142,7 @@ class Sheet:
     family: int = None
     n: int = None
     arm: dict = dataclasses.field(default_factory=dict)
+    limits: list = dataclasses.field(default_factory=list)
     poses: list = dataclasses.field(default_factory=list)
     where: dict = dataclasses.field(default_factory=dict)  # the line of each word that may stand once
 
@@ -131,10 +157,21 @@ class Sheet:
             rotation, place = pose.rows or rotation_of_rpy(pose.rpy), pose.place
         return [x for row in rotation for x in row] + place
 
+    def pose_block(self, pose):
+        return blocks.make(self.family, self.n, self.arm_numbers(), self.pose_numbers(pose))
+
     def to_blocks(self):
-        arm = self.arm_numbers()
-        made = (blocks.make(self.family, self.n, arm, self.pose_numbers(p)) for p in self.poses)
+        """The poses in their order, with a limits block wherever other limits begin to hold."""
+        made, limits = [], None
+        for pose in self.poses:
+            if pose.limits is not limits:
+                limits = pose.limits
+                made.append(blocks.make_limits(limits.numbers()))
+            made.append(self.pose_block(pose))
         return b"".join(made)
+
+    def limited_poses(self):
+        return [pose for pose in self.poses if pose.limits]
 
 
 # Small vectors and matrices: lists of numbers, and lists of rows.
@@ -213,6 +250,32 @@ def read_n(sheet, line, texts):
     sheet.n = whole(line, "n", texts)
 
 
+def read_limits(sheet, line, texts):
+    if not sheet.limits or sheet.limits[-1].closed:
+        sheet.limits.append(Limits())
+    joints = sheet.limits[-1].joints
+    if len(joints) == 6:
+        raise SheetError(line, "this is the seventh line 'limits', and there are six joints")
+    low, high = numbers(line, "limits", texts, 2)
+    if low > high:
+        raise SheetError(line, f"joint {len(joints) + 1}: low {texts[0]} is above high {texts[1]}")
+    joints.append((line, low, high))
+
+
+def close_limits(sheet, last=None):
+    """Where a pose begins, or the sheet ends: the limits that hold from here on, and they are six."""
+    if not sheet.limits:
+        return None
+    limits = sheet.limits[-1]
+    if len(limits.joints) != 6:
+        here = counted(len(limits.joints), "line", "lines")
+        raise SheetError(limits.joints[-1][0], f"limits are six lines, joint 1 first, and here are {here}")
+    if last and not limits.closed:
+        raise SheetError(last, "the sheet ends, and no pose stands below its last limits")
+    limits.closed = True
+    return limits
+
+
 def read_pose_line(pose, line, word, texts):
     """A line that stands below a pose."""
     if word == "row":
@@ -232,11 +295,15 @@ def read_pose_line(pose, line, word, texts):
 def read_line(sheet, line, word, texts):
     if word == "pose":
         name = " ".join(texts) or f"number {len(sheet.poses) + 1}"
-        sheet.poses.append(Pose(name, line))
+        sheet.poses.append(Pose(name, line, close_limits(sheet)))
     elif word in ("row", "rpy", "place", "from"):
         if not sheet.poses:
             raise SheetError(line, f"'{word}' belongs to a pose, and no line 'pose' stands above it")
+        if sheet.limits and not sheet.limits[-1].closed:
+            raise SheetError(line, f"'{word}' belongs to a pose, and limits stand between: limits go above 'pose'")
         read_pose_line(sheet.poses[-1], line, word, texts)
+    elif word == "limits":
+        read_limits(sheet, line, texts)
     elif word in ("family", "n") or word in AXES + OFFSETS:
         if word in sheet.where:
             raise SheetError(line, f"{word} stands on line {sheet.where[word]} already")
@@ -296,6 +363,7 @@ def parse(text):
     judge_n(sheet, last)
     if not sheet.poses:
         raise SheetError(last, "the sheet ends, and has no pose")
+    close_limits(sheet, last)
     for pose in sheet.poses:
         judge_pose(pose)
     return sheet
@@ -382,9 +450,27 @@ def pose_notes(sheet, pose):
         yield f"the rotation of pose '{pose.name}' is none: it is a mirror image"
 
 
+def limits_notes(sheet, limits):
+    """Nothing is turned, so limits beyond 180 degrees lack the answers that come from the other side."""
+    for joint, (line, low, high) in enumerate(limits.joints, 1):
+        removed = None
+        if high > 180 and low > -180:
+            removed = max(-180, low - 360), min(high - 360, low)
+        elif low < -180 and high < 180:
+            removed = max(low + 360, high), min(180, high + 360)
+        begin = f"line {line}: the limits of joint {joint}"
+        if removed and removed[0] <= removed[1]:
+            yield (f"{begin} go beyond 180 degrees, no answer does and none is turned: answers from"
+                   f" {removed[0]:g} to {removed[1]:g} are removed, though the joint can stand there")
+        elif sheet.family == 6 and joint == 1 and (low == -180 or high == 180):
+            yield (f"{begin} end at 180 degrees, and q1 of family 6 may lie some last places beyond;"
+                   f" a joint without stops gets -200 and 200")
+
+
 def notes(sheet):
+    of_limits = (note for limits in sheet.limits for note in limits_notes(sheet, limits))
     of_poses = (note for pose in sheet.poses for note in pose_notes(sheet, pose))
-    return [*arm_notes(sheet), *meeting_notes(sheet), *of_poses]
+    return [*arm_notes(sheet), *meeting_notes(sheet), *of_limits, *of_poses]
 
 
 # Showing what the program printed.
@@ -466,13 +552,34 @@ def counted(count, one, many):
     return f"{count:,} {one if count == 1 else many}"
 
 
-def table(sheet, pose, place, result):
-    """The lines of one pose."""
+def how_many(result, free):
+    """The number of answers, and what the limits removed. `free` is the result without limits."""
+    answers = counted(result.answers, "answer", "answers")
+    if not free:
+        return answers
+    if not free.answers:
+        return f"{answers}, and none without the limits"
+    if not result.answers:
+        return f"the limits leave no answer of {free.answers:,}"
+    removed = free.answers - result.answers
+    return f"{answers}; the limits removed {f'{removed:,} of {free.answers:,}' if removed else 'none'}"
+
+
+def makers(sheet, pose, result):
+    """How many answers of a result make the pose, in words; nothing where none does."""
+    found = sum(answer_line(sheet, pose, 0, angles, flag)[1] for angles, flag in result.angles)
+    # A list that is too long is known in part.
+    least = "at least " if len(result.angles) < result.answers else ""
+    return least + counted(found, "answer makes", "answers make") if found else ""
+
+
+def table(sheet, pose, place, result, free):
+    """The lines of one pose. `free` is its result without limits, where it has limits."""
     head = f"Pose {place + 1}, {pose.name}: "
     if result.refusal not in (0, 9):
         yield head + f"refused ({result.refusal}): {REFUSALS[result.refusal]}"
         return
-    head += counted(result.answers, "answer", "answers")
+    head += how_many(result, free)
     if sheet.family == 6:
         head += f", {counted(result.evaluations, 'evaluation', 'evaluations')} of the search error"
     yield head
@@ -486,18 +593,36 @@ def table(sheet, pose, place, result):
         line, makes = answer_line(sheet, pose, i + 1, angles, flag)
         made |= makes
         yield line
-    if not made:
+    outside = makers(sheet, pose, free) if free and not made else ""
+    if outside:
+        none = "None of these makes the pose. " if result.angles else ""
+        yield f"  {none}Outside the limits {outside} it."
+    elif not made:
         none = "None of these makes the pose, which" if result.angles else "This"
         yield f"  {none} does not say that the pose is out of reach: README.md"
 
 
-def show(sheet, results):
+def limits_table(limits):
+    yield "Limits for the poses below:"
+    yield f"{'':>6}" + "".join(f"{'q' + str(i):>11}" for i in range(1, 7))
+    for name, side in (("low", 1), ("high", 2)):
+        ends = [joint[side] for joint in limits.joints]
+        yield f"{name:>6}" + "".join(f"{x:>11.4f}" if abs(x) < 1e5 else f"{x:>11.3e}" for x in ends)
+
+
+def show(sheet, results, free):
+    """The tables. `free` has the results without limits of the poses that have limits."""
     title = f"Family {sheet.family}, {FAMILIES[sheet.family]}"
     title += f", n = {sheet.n}" if sheet.family == 6 else ""
     yield f"{title}. Angles in degrees."
+    limits, free = None, iter(free)
     for place, (pose, result) in enumerate(zip(sheet.poses, results)):
+        if pose.limits is not limits:
+            limits = pose.limits
+            yield ""
+            yield from limits_table(limits)
         yield ""
-        yield from table(sheet, pose, place, result)
+        yield from table(sheet, pose, place, result, next(free) if limits else None)
     if any(result.angles for result in results):
         yield ""
         yield "place off, turn off: how far an answer's own pose is from the one asked for, in the"
@@ -543,6 +668,19 @@ def solve(sheet, options):
     return blocks.run(blocks.command(options.program), data)
 
 
+def solve_without_limits(sheet, options):
+    """The results of the poses that have limits, as if they had none."""
+    poses = sheet.limited_poses()
+    if not poses:
+        return []
+    data = b"".join(sheet.pose_block(pose) for pose in poses)
+    return read_results(blocks.run(blocks.command(options.program), data), len(poses))
+
+
+def tables(sheet, lines, options):
+    return show(sheet, read_results(lines, len(sheet.poses)), solve_without_limits(sheet, options))
+
+
 def main(words):
     options = arguments(words)
     text = read_text(options.sheet)
@@ -554,7 +692,7 @@ def main(words):
         print(f"note: {note}; the solver takes it as it is", file=sys.stderr)
     try:
         lines = solve(sheet, options)
-        shown = lines if options.lines else show(sheet, read_results(lines, len(sheet.poses)))
+        shown = lines if options.lines else tables(sheet, lines, options)
         print("\n".join(shown))
     except (blocks.NoProgram, BadLines) as error:
         return fail(1, str(error))

@@ -2,8 +2,10 @@
  * Solves a pose and prints the angles of each answer in degrees.
  *
  *   solve          the pose below, in degrees
+ *   solve inside   the same, with the answers inside the joint limits below alone
  *   solve block    that pose as a block of 512 bytes, which the program ik reads too
- *   solve lines    blocks from standard input, and the program's lines for each
+ *   solve limits   these limits as a limits block
+ *   solve lines    blocks from standard input, limits blocks among them, and the program's lines for each
  */
 #include <inttypes.h>
 #include <math.h>
@@ -15,6 +17,7 @@
 #define DEGREE (3.14159265358979323846 / 180)
 #define ROOM 1024 /* answers that there is room for */
 #define NEAR 1e-6 /* in metres, and in an entry of the rotation */
+#define LIMITS_HEAD (UINT64_C(1) << 24) /* word 0 of a limits block: byte 3 is 1 */
 
 /* A large arm with a spherical wrist, in metres: family 1. */
 #define FAMILY 1
@@ -24,6 +27,8 @@ static const double arm[SAIHKEB_ARM] = {
 };
 /* The joint angles that make the pose, in degrees. */
 static const double taught[SAIHKEB_ANGLES] = {30, -20, 15, 40, -60, 75};
+/* The stops of each joint, low then high, in degrees. The last joint has none: no angle is beyond 180. */
+static const double stops[SAIHKEB_LIMITS] = {-170, 170, -65, 85, -120, 70, -150, 150, -120, 120, -200, 200};
 
 static double angles[6 * ROOM];
 static uint8_t flags[ROOM];
@@ -34,12 +39,17 @@ static int refused(uint64_t refusal)
     return 1;
 }
 
+static void radians(const double *degrees, int count, double *out)
+{
+    for (int i = 0; i < count; i++)
+        out[i] = degrees[i] * DEGREE;
+}
+
 /* The pose of the taught angles. */
 static uint64_t find_pose(double pose[SAIHKEB_POSE])
 {
     double q[SAIHKEB_ANGLES];
-    for (int i = 0; i < 6; i++)
-        q[i] = taught[i] * DEGREE;
+    radians(taught, SAIHKEB_ANGLES, q);
     return saihkeb_forward_kinematics(arm, SAIHKEB_ARM, q, SAIHKEB_ANGLES, pose, SAIHKEB_POSE);
 }
 
@@ -55,10 +65,11 @@ static int makes(const double q[SAIHKEB_ANGLES], const double pose[SAIHKEB_POSE]
     return 1;
 }
 
-static int print_degrees(const double pose[SAIHKEB_POSE])
+/* The limits are twelve numbers, or NULL, 0. */
+static int print_degrees(const double pose[SAIHKEB_POSE], const double *limits, size_t limits_len)
 {
     uint64_t counts[2];
-    uint64_t refusal = saihkeb_solve(FAMILY, 0, arm, SAIHKEB_ARM, pose, SAIHKEB_POSE,
+    uint64_t refusal = saihkeb_solve(FAMILY, 0, arm, SAIHKEB_ARM, pose, SAIHKEB_POSE, limits, limits_len,
                                      angles, 6 * ROOM, flags, ROOM, counts);
     if (refusal)
         return refused(refusal);
@@ -86,24 +97,39 @@ static uint64_t bits(double x)
     return value;
 }
 
-static int write_block(const double pose[SAIHKEB_POSE])
+/* The block whose first words are these, with its check. */
+static int write_block(const uint64_t *words, int count)
 {
     uint8_t block[SAIHKEB_BLOCK] = {0};
-    uint64_t check = FAMILY;
-    put_word(block, 0, FAMILY);
-    for (int i = 0; i < SAIHKEB_ARM + SAIHKEB_POSE; i++) {
-        uint64_t word = bits(i < SAIHKEB_ARM ? arm[i] : pose[i - SAIHKEB_ARM]);
-        put_word(block, 1 + i, word);
-        check += word;
+    uint64_t check = 0;
+    for (int i = 0; i < count; i++) {
+        put_word(block, i, words[i]);
+        check += words[i];
     }
     put_word(block, 63, check);
     return fwrite(block, sizeof block, 1, stdout) != 1;
 }
 
-static void print_lines(uint64_t place, const uint8_t *block, size_t length)
+static int write_pose_block(const double pose[SAIHKEB_POSE])
 {
-    uint64_t counts[2];
-    uint64_t refusal = saihkeb_solve_block(block, length, angles, 6 * ROOM, flags, ROOM, counts);
+    uint64_t words[1 + SAIHKEB_ARM + SAIHKEB_POSE] = {FAMILY};
+    for (int i = 0; i < SAIHKEB_ARM; i++)
+        words[1 + i] = bits(arm[i]);
+    for (int i = 0; i < SAIHKEB_POSE; i++)
+        words[1 + SAIHKEB_ARM + i] = bits(pose[i]);
+    return write_block(words, 1 + SAIHKEB_ARM + SAIHKEB_POSE);
+}
+
+static int write_limits_block(const double limits[SAIHKEB_LIMITS])
+{
+    uint64_t words[1 + SAIHKEB_LIMITS] = {LIMITS_HEAD};
+    for (int i = 0; i < SAIHKEB_LIMITS; i++)
+        words[1 + i] = bits(limits[i]);
+    return write_block(words, 1 + SAIHKEB_LIMITS);
+}
+
+static void print_lines(uint64_t place, uint64_t refusal, const uint64_t counts[2])
+{
     printf("block %" PRIu64 " refusal %" PRIu64 " answers %" PRIu64 " evals %" PRIu64 "\n",
            place, refusal, counts[0], counts[1]);
     for (uint64_t i = 0; i < counts[0] && i < ROOM; i++) {
@@ -113,24 +139,44 @@ static void print_lines(uint64_t place, const uint8_t *block, size_t length)
     }
 }
 
+/* As the program does: a limits block that is accepted holds until the next one, has no line and takes no place. */
 static int lines(void)
 {
     uint8_t block[SAIHKEB_BLOCK];
-    size_t length;
-    for (uint64_t place = 0; (length = fread(block, 1, sizeof block, stdin)) > 0; place++)
-        print_lines(place, block, length);
+    double limits[SAIHKEB_LIMITS] = {0};
+    size_t length, limits_len = 0;
+    uint64_t place = 0;
+    while ((length = fread(block, 1, sizeof block, stdin)) > 0) {
+        uint64_t refusal, counts[2] = {0, 0};
+        if (length == sizeof block && block[3] == 1) {
+            refusal = saihkeb_limits_block(block, length, limits);
+            if (!refusal) {
+                limits_len = SAIHKEB_LIMITS;
+                continue;
+            }
+        } else {
+            refusal = saihkeb_solve_block(block, length, limits, limits_len, angles, 6 * ROOM, flags, ROOM, counts);
+        }
+        print_lines(place++, refusal, counts);
+    }
     return 0;
 }
 
 int main(int count, char **words)
 {
-    double pose[SAIHKEB_POSE];
-    if (count > 1 && !strcmp(words[1], "lines"))
+    const char *what = count > 1 ? words[1] : "";
+    double pose[SAIHKEB_POSE], limits[SAIHKEB_LIMITS];
+    if (!strcmp(what, "lines"))
         return lines();
+    radians(stops, SAIHKEB_LIMITS, limits);
+    if (!strcmp(what, "limits"))
+        return write_limits_block(limits);
     uint64_t refusal = find_pose(pose);
     if (refusal)
         return refused(refusal);
-    if (count > 1 && !strcmp(words[1], "block"))
-        return write_block(pose);
-    return print_degrees(pose);
+    if (!strcmp(what, "block"))
+        return write_pose_block(pose);
+    if (!strcmp(what, "inside"))
+        return print_degrees(pose, limits, SAIHKEB_LIMITS);
+    return print_degrees(pose, NULL, 0);
 }

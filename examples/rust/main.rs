@@ -2,7 +2,8 @@
 //! examples/c/solve.c.
 //!
 //!   solve          the pose below, in degrees
-//!   solve lines    blocks from standard input, and the program's lines for each
+//!   solve inside   the same, with the answers inside the joint limits below alone
+//!   solve lines    blocks from standard input, limits blocks among them, and the program's lines for each
 
 mod saihkeb;
 
@@ -22,6 +23,12 @@ const ARM: [f64; 39] = [
 /// The joint angles that make the pose, in degrees.
 const TAUGHT: [f64; 6] = [30.0, -20.0, 15.0, 40.0, -60.0, 75.0];
 
+/// The stops of each joint, low then high, in degrees. The last joint has none: no angle is beyond 180.
+#[rustfmt::skip]
+const STOPS: [f64; 12] = [
+    -170.0, 170.0,  -65.0, 85.0,  -120.0, 70.0,  -150.0, 150.0,  -120.0, 120.0,  -200.0, 200.0,
+];
+
 const DEGREE: f64 = std::f64::consts::PI / 180.0;
 
 /// In metres, and in an entry of the rotation.
@@ -34,10 +41,11 @@ fn makes(angles: &[f64], pose: &[f64; 12]) -> bool {
     at.iter().zip(pose).all(|(a, b)| (a - b).abs() <= NEAR)
 }
 
-fn degrees() -> io::Result<()> {
+/// The limits are twelve numbers or none.
+fn degrees(limits: &[f64]) -> io::Result<()> {
     let pose = saihkeb::forward_kinematics(&ARM, &TAUGHT.map(|t| t * DEGREE));
     let (mut angles, mut flags) = ([0.0; 6 * ROOM], [0; ROOM]);
-    let solved = saihkeb::solve(FAMILY, 0, &ARM, &pose, &mut angles, &mut flags);
+    let solved = saihkeb::solve(FAMILY, 0, &ARM, &pose, limits, &mut angles, &mut flags);
     if solved.refusal != 0 {
         return Err(io::Error::other(format!("refusal {}", solved.refusal)));
     }
@@ -59,13 +67,30 @@ fn bits(x: f64) -> u64 {
     x.to_bits()
 }
 
+/// As the program does: a limits block that is accepted holds until the next one, has no line and takes no
+/// place.
 fn lines() -> io::Result<()> {
     let mut input = Vec::new();
     io::stdin().read_to_end(&mut input)?;
     let mut out = io::BufWriter::new(io::stdout());
     let (mut angles, mut flags) = ([0.0; 6 * ROOM], [0; ROOM]);
-    for (place, block) in input.chunks(512).enumerate() {
-        let s = saihkeb::solve_block(block, &mut angles, &mut flags);
+    let (mut place, mut limits) = (0, Vec::new());
+    for block in input.chunks(512) {
+        let s = if block.len() == 512 && block[3] == 1 {
+            match saihkeb::limits_block(block) {
+                Ok(numbers) => {
+                    limits = numbers.to_vec();
+                    continue;
+                }
+                Err(refusal) => saihkeb::Solved {
+                    refusal,
+                    answers: 0,
+                    evaluations: 0,
+                },
+            }
+        } else {
+            saihkeb::solve_block(block, &limits, &mut angles, &mut flags)
+        };
         let (refusal, answers, evals) = (s.refusal, s.answers, s.evaluations);
         writeln!(
             out,
@@ -77,6 +102,7 @@ fn lines() -> io::Result<()> {
             }
             writeln!(out, "{}", flags[i])?;
         }
+        place += 1;
     }
     out.flush()
 }
@@ -84,6 +110,7 @@ fn lines() -> io::Result<()> {
 fn main() -> io::Result<()> {
     match std::env::args().nth(1).as_deref() {
         Some("lines") => lines(),
-        _ => degrees(),
+        Some("inside") => degrees(&STOPS.map(|stop| stop * DEGREE)),
+        _ => degrees(&[]),
     }
 }

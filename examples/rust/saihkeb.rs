@@ -13,6 +13,8 @@ mod library {
             arm_len: usize,
             pose: *const f64,
             pose_len: usize,
+            limits: *const f64,
+            limits_len: usize,
             angles: *mut f64,
             angles_len: usize,
             flags: *mut u8,
@@ -22,11 +24,18 @@ mod library {
         pub fn saihkeb_solve_block_lent(
             block: *const u8,
             block_len: usize,
+            limits: *const f64,
+            limits_len: usize,
             angles: *mut f64,
             angles_len: usize,
             flags: *mut u8,
             flags_len: usize,
             counts: *mut [u64; 2],
+        ) -> u64;
+        pub fn saihkeb_limits_block_lent(
+            block: *const u8,
+            block_len: usize,
+            limits: *mut [f64; 12],
         ) -> u64;
         pub fn saihkeb_forward_kinematics_lent(
             arm: *const f64,
@@ -43,18 +52,19 @@ mod library {
 #[derive(Debug, Clone, Copy, PartialEq, Eq)]
 pub struct Solved {
     pub refusal: u64,
-    /// The answers of the full list, also of those that did not fit.
+    /// The answers inside the limits, also those that did not fit.
     pub answers: u64,
     /// The evaluations of family 6's search.
     pub evaluations: u64,
 }
 
-/// The solve call of include/saihkeb.h.
+/// The solve call of include/saihkeb.h. The limits are twelve numbers or none.
 pub fn solve(
     family: u64,
     n: u64,
     arm: &[f64],
     pose: &[f64],
+    limits: &[f64],
     angles: &mut [f64],
     flags: &mut [u8],
 ) -> Solved {
@@ -67,6 +77,8 @@ pub fn solve(
             arm.len(),
             pose.as_ptr(),
             pose.len(),
+            limits.as_ptr(),
+            limits.len(),
             angles.as_mut_ptr(),
             angles.len(),
             flags.as_mut_ptr(),
@@ -77,13 +89,15 @@ pub fn solve(
     solved(refusal, counts)
 }
 
-/// The block call.
-pub fn solve_block(block: &[u8], angles: &mut [f64], flags: &mut [u8]) -> Solved {
+/// The same for a pose block.
+pub fn solve_block(block: &[u8], limits: &[f64], angles: &mut [f64], flags: &mut [u8]) -> Solved {
     let mut counts = [0; 2];
     let refusal = unsafe {
         library::saihkeb_solve_block_lent(
             block.as_ptr(),
             block.len(),
+            limits.as_ptr(),
+            limits.len(),
             angles.as_mut_ptr(),
             angles.len(),
             flags.as_mut_ptr(),
@@ -92,6 +106,17 @@ pub fn solve_block(block: &[u8], angles: &mut [f64], flags: &mut [u8]) -> Solved
         )
     };
     solved(refusal, counts)
+}
+
+/// The twelve numbers of a limits block, or its refusal.
+pub fn limits_block(block: &[u8]) -> Result<[f64; 12], u64> {
+    let mut limits = [0.0; 12];
+    let refusal =
+        unsafe { library::saihkeb_limits_block_lent(block.as_ptr(), block.len(), &mut limits) };
+    match refusal {
+        0 => Ok(limits),
+        refusal => Err(refusal),
+    }
 }
 
 fn solved(refusal: u64, [answers, evaluations]: [u64; 2]) -> Solved {

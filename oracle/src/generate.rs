@@ -59,7 +59,7 @@ pub struct Sample {
 }
 
 impl Sample {
-    fn request(&self) -> Request {
+    pub fn request(&self) -> Request {
         Request {
             family: self.family,
             n: self.n,
@@ -328,7 +328,7 @@ pub fn limited_bytes(
 
 /// A block that one of the refusals 2, 3, 4, 7 and 8 applies to, now and then several, and now
 /// and then none.
-fn refused_block(sample: &Sample, rng: &mut Rng) -> [u8; BLOCK_BYTES] {
+pub fn refused_block(sample: &Sample, rng: &mut Rng) -> [u8; BLOCK_BYTES] {
     let mut request = sample.request();
     let fault = rng.below(7);
     match fault {
@@ -351,7 +351,7 @@ fn refused_block(sample: &Sample, rng: &mut Rng) -> [u8; BLOCK_BYTES] {
     bytes
 }
 
-fn wrong_n(family: u64, rng: &mut Rng) -> u64 {
+pub fn wrong_n(family: u64, rng: &mut Rng) -> u64 {
     if family == TWO_PARALLEL {
         rng.pick(&[0, 401, 402, 512, 32768, 65535])
     } else {
@@ -359,7 +359,7 @@ fn wrong_n(family: u64, rng: &mut Rng) -> u64 {
     }
 }
 
-fn spoil_one(numbers: &mut [f64], rng: &mut Rng) {
+pub fn spoil_one(numbers: &mut [f64], rng: &mut Rng) {
     let at = rng.below(numbers.len());
     let last = rng.pick(&[0, at, numbers.len() - 1]);
     numbers[last] = rng.pick(&[

@@ -82,7 +82,7 @@ fn put(numbers: &mut Numbers, joint: usize, low: f64, high: f64) {
 }
 
 /// Limits that a call accepts.
-fn good(answers: &[Vector6], rng: &mut Rng) -> Numbers {
+pub fn good(answers: &[Vector6], rng: &mut Rng) -> Numbers {
     let mut numbers = wide(rng);
     let some = 1 + rng.below(6);
     match rng.below(10) {
@@ -185,7 +185,7 @@ fn order(numbers: &mut Numbers) {
 }
 
 /// A low above its high, by much or by one step.
-fn cross(numbers: &mut Numbers, rng: &mut Rng) {
+pub fn cross(numbers: &mut Numbers, rng: &mut Rng) {
     let joint = rng.below(6);
     let (low, high) = (numbers[2 * joint], numbers[2 * joint + 1]);
     let above = if high > 0.0 { nudged(high, 1) } else { TINY };
@@ -200,7 +200,7 @@ fn cross(numbers: &mut Numbers, rng: &mut Rng) {
 }
 
 /// A NaN of some sort or an infinity in one place, or infinities that would admit every angle.
-fn make_infinite(numbers: &mut Numbers, rng: &mut Rng) {
+pub fn make_infinite(numbers: &mut Numbers, rng: &mut Rng) {
     let at = rng.below(NUMBERS);
     let bad = [
         f64::NAN,

@@ -6,12 +6,14 @@ mod arms;
 mod bench;
 mod beside;
 mod block;
+mod calls;
 mod cases;
 mod complex;
 mod differ;
 mod errors;
 mod functions;
 mod generate;
+mod generate_calls;
 mod inputs;
 mod inverse;
 mod inverse_kinematics;
@@ -55,6 +57,9 @@ usage: oracle COMMAND
   stand-in N                             the same for an error that is easy to write down
   call NAME                              run one function on each line of hexadecimal arguments
   call --list                            the functions with their argument words
+  calls                                  run the library's calls, one on each line
+  calls --list                           how these lines and those of the results are written
+  generate-calls SEED COUNT              such lines: good calls, and calls with every fault
   generate KIND FAMILY SEED COUNT [N]    blocks; KIND is reachable, unreachable, bent, random,
                                          hostile, headers, degenerate or round; --limits puts
                                          limits blocks among them
@@ -177,6 +182,13 @@ fn command<A: Arith>(line: &CommandLine, output: &mut impl Write) -> Result<(), 
             ))
         }
         ["call"] if line.list => told(list_functions(output)),
+        ["generate-calls", seed, count] => {
+            let (seed, count) = (number(seed)?, number(count)?);
+            let mut calls = (0..count).map(|place| generate_calls::call(seed, place));
+            told(calls.try_for_each(|call| writeln!(output, "{call}")))
+        }
+        ["calls"] if line.list => told(output.write_all(calls::FORMAT.as_bytes())),
+        ["calls"] => told(calls::run_lines::<A>(&mut io::stdin().lock(), output)),
         ["call", name] => {
             let function = functions::by_name(name).ok_or(format!("no function {name}"))?;
             call::<A>(function, &mut io::stdin().lock(), output)

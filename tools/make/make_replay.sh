@@ -3,7 +3,11 @@
 # kind, crates/replay/stdout the lines that the reference program prints for them. The seeds are fixed,
 # so every run makes the same bytes. Prints what the set has. Needs cargo and python3.
 #   tools/make/make_replay.sh
-# Refusals 5 and 6 are not in it: a block has always 39 and 12 numbers.
+# It has 3,755 blocks, and 846 of them are limits blocks: 622 accepted, which print nothing, 223 refused by 2,
+# 3 or 10, and the last of all, cut short. First stands one that is refused, then 2,049 blocks that are solved
+# without limits, then limits blocks in every state with other blocks among them
+# (tools/make/replay_limits.py); before the short one stands an accepted one. Refusals 5 and 6 are not in it:
+# a block has always 39 and 12 numbers.
 set -euo pipefail
 cd "$(dirname "$0")/../.."
 seed=20261116
@@ -30,11 +34,12 @@ python3 - >"$dir/in" <<'END'
 import sys
 sys.path.insert(0, "tools")
 import blocks
-# Document 01's three blocks.
+# Limits that would leave nothing, were it not for a low above its high; then document 01's three blocks.
+sys.stdout.buffer.write(blocks.make_limits([4.0, 5.0] * 5 + [5.0, 4.0]))
 for family, n in ((3, 0), (6, 200), (9, 0)):
     sys.stdout.buffer.write(blocks.make(family, n, [0.0] * 39, [0.0] * 12))
 END
-printf '%s\n' 'zeros 3 0' 'zeros 6 200' 'zeros 9 0' >"$dir/list"
+printf '%s\n' 'limits 0 0' 'zeros 3 0' 'zeros 6 200' 'zeros 9 0' >"$dir/list"
 for kind in "${kinds[@]}"; do
     for family in 1 2 3 4 5; do add "$kind" "$family" "$seed" 25; done
     for n in 1 2 7; do add "$kind" 6 "$seed" 12 "$n"; done
@@ -47,11 +52,16 @@ add_one long 6 400 1092 512 hostile 77
 for family in 5 4 3 2 1; do
     for kind in "${kinds[@]}"; do add "$kind" "$family" $((seed + 1)) 25; done
 done
-add_one short 1 0 0 511 reachable "$seed"
+# Ends with an accepted limits block.
+python3 tools/make/replay_limits.py "$oracle" "$seed" "$dir/in" "$dir/list"
+tail -c 512 "$dir/in" | head -c 511 >"$dir/short"
+cat "$dir/short" >>"$dir/in"
+echo 'short 0 0' >>"$dir/list"
 
 mkdir -p crates/replay
 cp "$dir/in" crates/replay/stdin
 "$oracle" blocks <crates/replay/stdin >crates/replay/stdout
+[ "$(wc -l <"$dir/list")" -eq "$(grep -c ^block crates/replay/stdout)" ] || { echo "places are missing" >&2; exit 1; }
 
 awk '
     function add(table, key) {
@@ -67,7 +77,7 @@ awk '
     $1 == "block" {
         split(what[$2], w, " ")
         add("kind", w[1])
-        add("family", w[2])
+        if (w[2] > 0) add("family", w[2])
         if (w[2] == 6) add("n", w[3])
         add("refusal", $4)
         blocks++
@@ -82,8 +92,9 @@ awk '
         show("family", "by family asked for")
         show("n", "family 6 by n")
         show("refusal", "by refusal")
-        printf "%d blocks, %d answers (most in one list: %d), ", blocks, answers, most
+        printf "%d blocks with a line, %d answers (most in one list: %d), ", blocks, answers, most
         printf "%d written, %d flagged, %d with a NaN\n", written, flagged, nans
     }
 ' "$dir/list" crates/replay/stdout
+echo "$((($(wc -c <crates/replay/stdin) + 511) / 512)) blocks in all"
 wc -c crates/replay/stdin crates/replay/stdout

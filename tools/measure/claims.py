@@ -268,10 +268,37 @@ def longest(t, name):
               f" {sum(evaluations) / count:.0f} on average, {max(evaluations)} at most", most <= 44 * n)
 
 
+def angles(t, name):
+    """Every angle that is not NaN, in poses from random and from round angles and of hostile numbers."""
+    import check_flags
+    import subprocess
+    for family in FAMILIES:
+        poses = answers = at_pi = q1_beyond = others_beyond = 0
+        farthest = 0.0
+        for kind in ("reachable", "round", "hostile"):
+            for n, count in ((25, 2000), (50, 2000), (200, 500)) if family == 6 else ((0, 5000),):
+                words = [check_flags.ORACLE, "generate", kind, str(family), str(t.seed), str(count)]
+                made = subprocess.run(words + [str(n)] * (family == 6), capture_output=True, check=True).stdout
+                poses += count
+                for result in sheet.read_results(blocks.run(t.words, made), count):
+                    answers += len(result.angles)
+                    for answer, _ in result.angles:
+                        sizes = [0.0 if math.isnan(q) else abs(q) for q in answer]
+                        at_pi += math.pi in sizes
+                        q1_beyond += sizes[0] > math.pi
+                        others_beyond += max(sizes[1:]) > math.pi
+                        farthest = max(farthest, *sizes)
+        text = f"family {family}, {poses} poses, {answers} answers: an angle at PI or -PI in {at_pi}, q1 beyond in"
+        text += f" {q1_beyond}, another angle beyond in {others_beyond}; the farthest is {farthest!r}"
+        holds = not others_beyond and (family == 6 or not q1_beyond) and farthest < math.pi + 1e-12
+        t.say(name, text, at_pi > 0 and holds)
+
+
 CLAIMS = {
     "lengths": lengths, "length-example": length_example, "rotations": rotations, "unread": unread,
     "left-out": left_out, "opposite": opposite, "told": told, "parallel": parallel, "plane": plane,
     "turned-wrist": turned_wrist, "home": home, "straight": straight, "unit": unit, "longest": longest,
+    "angles": angles,
 }
 
 

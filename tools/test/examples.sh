@@ -1,8 +1,8 @@
 #!/usr/bin/env bash
 # Builds the C and the Rust example and the program, and holds the examples' angles to the
-# program's: the degrees that they print for their own pose, and every line of COUNT poses for each
-# family and of blocks that are refused. Then tools/test/test_header.sh. Needs rt, cargo, a C and a C++
-# compiler and python3.
+# program's: the degrees that they print for their own pose, without limits and inside theirs; every line
+# of COUNT poses for each family and of blocks that are refused; and the same poses with limits blocks
+# among them. Then tools/test/test_header.sh. Needs rt, cargo, a C and a C++ compiler and python3.
 #   tools/test/examples.sh [COUNT]
 set -euo pipefail
 cd "$(dirname "$0")/../.."
@@ -29,17 +29,28 @@ for line in sys.stdin:
 target/examples/solve_c block | tools/program.sh ik | degrees >"$log/program"
 cmp "$log/program" "$log/c"
 cmp "$log/program" "$log/rust"
-echo "degrees: $(wc -l <"$log/program") answers, C and Rust as the program"
+{ target/examples/solve_c limits; target/examples/solve_c block; } | tools/program.sh ik | degrees >"$log/inside"
+target/examples/solve_c inside | cmp "$log/inside" -
+target/examples/solve_rust inside | cmp "$log/inside" -
+echo "degrees: $(wc -l <"$log/program") answers, $(wc -l <"$log/inside") inside the limits, C and Rust as the program"
 
-for family in 1 2 3 4 5 6; do
-    "$oracle" generate reachable "$family" 1 "$count" $([ "$family" -lt 6 ] || echo 50)
-done >"$log/blocks"
-for family in 1 2 3 4 5; do
-    "$oracle" generate hostile "$family" 1 "$count"
-done >>"$log/blocks"
-"$oracle" generate headers 1 1 "$count" >>"$log/blocks"
-tools/program.sh ik <"$log/blocks" >"$log/lines"
-target/examples/solve_c lines <"$log/blocks" | cmp - "$log/lines"
-target/examples/solve_rust lines <"$log/blocks" | cmp - "$log/lines"
-echo "lines: $(grep -c ^block "$log/lines") blocks, $(grep -vc ^block "$log/lines") answers, C and Rust as the program"
+# The lines of the program and of both examples for the blocks in a file, each input in a process of its
+# own, for it may end in a short block.
+hold() { # FILE
+    tools/program.sh ik <"$1" >"$log/lines"
+    target/examples/solve_c lines <"$1" | cmp - "$log/lines"
+    target/examples/solve_rust lines <"$1" | cmp - "$log/lines"
+    cat "$log/lines" >>"$log/all"
+}
+for limits in '' --limits; do
+    : >"$log/all"
+    for family in 1 2 3 4 5 6; do
+        for kind in reachable hostile headers; do
+            "$oracle" generate $kind "$family" 1 "$count" $([ "$family" -lt 6 ] || echo 25) $limits >"$log/in"
+            hold "$log/in"
+        done
+    done
+    echo "lines${limits:+, limits blocks among the others}: $(grep -c ^block "$log/all") blocks with a line," \
+        "$(grep -vc ^block "$log/all") answers, C and Rust as the program"
+done
 tools/test/test_header.sh

@@ -1,9 +1,10 @@
 /*
- * Tries what include/saihkeb.h says of lists, refusals and memory: C99, and C++ as well.
+ * Tries what include/saihkeb.h says of lists, limits, refusals and memory: C99, and C++ as well.
  * tools/test/test_header.sh compiles it both ways and runs it. It prints what does not hold, and at the end
  * how many checks were made.
  */
 #include <fenv.h>
+#include <float.h>
 #include <math.h>
 #include <pthread.h>
 #include <stdio.h>
@@ -63,29 +64,42 @@ static int none(void)
 static uint64_t solve(uint64_t family, uint64_t n, const double *a, const double *p)
 {
     clear();
-    return saihkeb_solve(family, n, a, SAIHKEB_ARM, p, SAIHKEB_POSE, angles, 6 * ROOM, flags, ROOM, counts);
+    return saihkeb_solve(family, n, a, SAIHKEB_ARM, p, SAIHKEB_POSE, NULL, 0, angles, 6 * ROOM, flags, ROOM, counts);
+}
+
+/* The pose under limits. */
+static uint64_t limited(const double *limits, size_t length)
+{
+    clear();
+    return saihkeb_solve(1, 0, arm, SAIHKEB_ARM, pose, SAIHKEB_POSE, limits, length, angles, 6 * ROOM, flags, ROOM,
+                         counts);
 }
 
 static void nulls(void)
 {
     clear();
-    check(saihkeb_solve(1, 0, NULL, 0, NULL, 0, NULL, 0, NULL, 0, counts) == 5, "solve: all lists NULL, 0");
+    check(saihkeb_solve(1, 0, NULL, 0, NULL, 0, NULL, 0, NULL, 0, NULL, 0, counts) == 5,
+          "solve: all lists NULL, 0");
     check(counts[0] == 0 && counts[1] == 0, "solve: NULL, 0: both counts 0");
-    check(saihkeb_solve(1, 0, arm, SAIHKEB_ARM, NULL, 0, NULL, 0, NULL, 0, counts) == 6, "solve: pose NULL, 0");
-    check(saihkeb_solve(1, 0, arm, SAIHKEB_ARM, pose, SAIHKEB_POSE, NULL, 0, NULL, 0, counts) == 9,
+    check(saihkeb_solve(1, 0, arm, SAIHKEB_ARM, NULL, 0, NULL, 0, NULL, 0, NULL, 0, counts) == 6,
+          "solve: pose NULL, 0");
+    check(saihkeb_solve(1, 0, arm, SAIHKEB_ARM, pose, SAIHKEB_POSE, NULL, 0, NULL, 0, NULL, 0, counts) == 9,
           "solve: no list for the answers");
     check(counts[0] == 8, "solve: NULL, 0 for both lists gives the number alone");
-    check(saihkeb_solve(1, 0, arm, SAIHKEB_ARM, pose, SAIHKEB_POSE, angles, 6 * ROOM, NULL, 0, counts) == 9
+    check(saihkeb_solve(1, 0, arm, SAIHKEB_ARM, pose, SAIHKEB_POSE, NULL, 0, angles, 6 * ROOM, NULL, 0, counts) == 9
               && counts[0] == 8 && kept(0), "solve: flags NULL, 0");
-    check(saihkeb_solve(1, 0, arm, SAIHKEB_ARM, pose, SAIHKEB_POSE, NULL, 0, flags, ROOM, counts) == 9
+    check(saihkeb_solve(1, 0, arm, SAIHKEB_ARM, pose, SAIHKEB_POSE, NULL, 0, NULL, 0, flags, ROOM, counts) == 9
               && counts[0] == 8 && kept(0), "solve: angles NULL, 0");
-    check(saihkeb_solve(1, 0, NULL, SAIHKEB_ARM, pose, SAIHKEB_POSE, angles, 6 * ROOM, flags, ROOM, counts) == 5
-              && none(), "solve: NULL is an empty list, whatever its length says");
+    check(saihkeb_solve(1, 0, NULL, SAIHKEB_ARM, pose, SAIHKEB_POSE, NULL, 0, angles, 6 * ROOM, flags, ROOM, counts)
+              == 5 && none(), "solve: NULL is an empty list, whatever its length says");
+    check(limited(NULL, 11) == 0 && counts[0] == 8, "solve: limits NULL with a length");
     clear();
-    check(saihkeb_solve_block(NULL, 0, NULL, 0, NULL, 0, counts) == 1 && none(), "block: all lists NULL, 0");
-    check(saihkeb_solve_block(NULL, SAIHKEB_BLOCK, angles, 6 * ROOM, flags, ROOM, counts) == 1 && none(),
+    check(saihkeb_solve_block(NULL, 0, NULL, 0, NULL, 0, NULL, 0, counts) == 1 && none(), "block: all lists NULL, 0");
+    check(saihkeb_solve_block(NULL, SAIHKEB_BLOCK, NULL, 0, angles, 6 * ROOM, flags, ROOM, counts) == 1 && none(),
           "block: NULL with a length");
-    double out[SAIHKEB_POSE];
+    double out[SAIHKEB_POSE] = {MARK};
+    check(saihkeb_limits_block(NULL, 0, out) == 1 && out[0] == MARK, "limits block: NULL, 0");
+    check(saihkeb_limits_block(NULL, SAIHKEB_BLOCK, out) == 1 && out[0] == MARK, "limits block: NULL with a length");
     check(saihkeb_forward_kinematics(NULL, 0, NULL, 0, NULL, 0) == 5, "forward: all lists NULL, 0");
     check(saihkeb_forward_kinematics(arm, SAIHKEB_ARM, NULL, 0, NULL, 0) == 6, "forward: 6 comes before 18");
     check(saihkeb_forward_kinematics(arm, SAIHKEB_ARM, NULL, 0, out, SAIHKEB_POSE) == 18, "forward: angles NULL, 0");
@@ -109,9 +123,10 @@ static void refusals(void)
     check(solve(1, 0, arm, off) == 8 && none(), "a pose with an infinity");
     check(solve(1, 1, bad, off) == 7 && none(), "7 comes before 8");
     clear();
-    check(saihkeb_solve(1, 0, arm, 38, pose, 11, angles, 6 * ROOM, flags, ROOM, counts) == 5 && none(), "5 before 6");
-    check(saihkeb_solve(1, 0, arm, SAIHKEB_ARM, pose, 11, angles, 6 * ROOM, flags, ROOM, counts) == 6 && none(),
-          "a pose of 11 numbers");
+    check(saihkeb_solve(1, 0, arm, 38, pose, 11, NULL, 0, angles, 6 * ROOM, flags, ROOM, counts) == 5 && none(),
+          "5 before 6");
+    check(saihkeb_solve(1, 0, arm, SAIHKEB_ARM, pose, 11, NULL, 0, angles, 6 * ROOM, flags, ROOM, counts) == 6
+              && none(), "a pose of 11 numbers");
 }
 
 static void lists(void)
@@ -120,33 +135,155 @@ static void lists(void)
     double first[18];
     memcpy(first, angles, sizeof first);
     clear();
-    check(saihkeb_solve(1, 0, arm, SAIHKEB_ARM, pose, SAIHKEB_POSE, angles, 23, flags, ROOM, counts) == 9,
+    check(saihkeb_solve(1, 0, arm, SAIHKEB_ARM, pose, SAIHKEB_POSE, NULL, 0, angles, 23, flags, ROOM, counts) == 9,
           "room for three answers");
     check(counts[0] == 8 && kept(3) && !memcmp(first, angles, sizeof first), "the first three, and the number");
     clear();
-    check(saihkeb_solve(1, 0, arm, SAIHKEB_ARM, pose, SAIHKEB_POSE, angles, 6 * ROOM, flags, 3, counts) == 9
+    check(saihkeb_solve(1, 0, arm, SAIHKEB_ARM, pose, SAIHKEB_POSE, NULL, 0, angles, 6 * ROOM, flags, 3, counts) == 9
               && counts[0] == 8 && kept(3), "flags for three answers");
 }
 
-/* An arm and its pose as a block. */
-static void make_block(uint8_t *block, uint64_t head)
+/* Limits that every angle of an answer is inside of. */
+static void make_wide(double *limits)
 {
-    uint64_t word, sum = head;
-    memset(block, 0, SAIHKEB_BLOCK);
-    memcpy(block, &head, 8);
-    memcpy(block + 8, arm, sizeof arm);
-    memcpy(block + 8 + sizeof arm, pose, sizeof pose);
-    for (int i = 1; i < 63; i++) {
+    for (int i = 0; i < SAIHKEB_LIMITS; i++)
+        limits[i] = i % 2 ? 4 : -4;
+}
+
+static void bad_limits(void)
+{
+    double limits[2 * SAIHKEB_LIMITS];
+    const double bad[] = {NAN, -NAN, INFINITY, -INFINITY};
+    make_wide(limits);
+    make_wide(limits + SAIHKEB_LIMITS);
+    for (size_t length = 1; length <= 2 * SAIHKEB_LIMITS; length++)
+        if (length != SAIHKEB_LIMITS)
+            check(limited(limits, length) == 10 && none(), "limits of another length");
+    for (int i = 0; i < SAIHKEB_LIMITS; i++) {
+        for (int j = 0; j < 4; j++) {
+            limits[i] = bad[j];
+            check(limited(limits, SAIHKEB_LIMITS) == 10 && none(), "a limit that is not finite");
+        }
+        limits[i] = i % 2 ? -4.5 : 4.5;
+        check(limited(limits, SAIHKEB_LIMITS) == 10 && none(), "a low above its high");
+        limits[i] = i % 2 ? -4 : 4;
+        check(limited(limits, SAIHKEB_LIMITS) == 0 && counts[0] == 0 && kept(0), "a low equal to its high");
+        make_wide(limits);
+    }
+    limits[2] = 0.0, limits[3] = -0.0;
+    check(limited(limits, SAIHKEB_LIMITS) == 0, "0.0 is not above -0.0");
+    clear();
+    check(saihkeb_solve(9, 1, arm, 38, pose, 11, limits, 11, angles, 6 * ROOM, flags, ROOM, counts) == 10 && none(),
+          "10 comes before 4, 5, 6 and 7");
+    check(saihkeb_solve(9, 1, arm, 38, pose, 11, limits, 12, angles, 6 * ROOM, flags, ROOM, counts) == 4 && none(),
+          "good limits leave 4 as it is");
+}
+
+static void good_limits(void)
+{
+    double full[48], limits[SAIHKEB_LIMITS];
+    uint8_t full_flags[8];
+    solve(1, 0, arm, pose);
+    memcpy(full, angles, sizeof full);
+    memcpy(full_flags, flags, sizeof full_flags);
+    make_wide(limits);
+    check(limited(limits, SAIHKEB_LIMITS) == 0 && counts[0] == 8 && kept(8) && !memcmp(full, angles, sizeof full),
+          "wide limits leave every answer");
+    check(limited(limits, 0) == 0 && counts[0] == 8, "a list of no limits");
+    /* Both ends of a joint at an answer's own angle: what has that angle stays, in its order. */
+    for (int own = 0; own < 8; own++)
+        for (int joint = 0; joint < 6; joint++) {
+            uint64_t stay = 0;
+            int same = 1;
+            make_wide(limits);
+            limits[2 * joint] = limits[2 * joint + 1] = full[6 * own + joint];
+            check(limited(limits, SAIHKEB_LIMITS) == 0, "an answer's own angle for both ends");
+            for (int i = 0; i < 8; i++)
+                if (full[6 * i + joint] == full[6 * own + joint]) {
+                    same &= !memcmp(full + 6 * i, angles + 6 * stay, 6 * sizeof *full) && flags[stay] == full_flags[i];
+                    stay++;
+                }
+            check(same && counts[0] == stay && kept((int)stay), "the answers inside, in their order");
+        }
+    /* Room for what stays, and for one fewer. */
+    make_wide(limits);
+    limits[0] = limits[1] = full[0];
+    check(limited(limits, SAIHKEB_LIMITS) == 0 && counts[0] > 1 && counts[0] < 8, "some answers stay");
+    uint64_t stay = counts[0];
+    clear();
+    check(saihkeb_solve(1, 0, arm, SAIHKEB_ARM, pose, SAIHKEB_POSE, limits, SAIHKEB_LIMITS, angles, 6 * stay, flags,
+                        stay, counts) == 0 && counts[0] == stay, "answers outside the limits take no room");
+    clear();
+    check(saihkeb_solve(1, 0, arm, SAIHKEB_ARM, pose, SAIHKEB_POSE, limits, SAIHKEB_LIMITS, angles, 6 * stay - 1, flags,
+                        stay, counts) == 9 && counts[0] == stay && kept((int)stay - 1), "9 goes by what stays");
+    /* Nothing is turned: full[0] plus 2 pi is outside, full[0] itself inside. */
+    limits[0] += 6.283185307179586, limits[1] += 6.283185307179586;
+    check(limited(limits, SAIHKEB_LIMITS) == 0 && counts[0] == 0 && kept(0), "nothing is turned by 2 pi");
+    check(saihkeb_solve(1, 0, arm, SAIHKEB_ARM, pose, SAIHKEB_POSE, limits, SAIHKEB_LIMITS, NULL, 0, NULL, 0, counts)
+              == 0 && counts[0] == 0, "nothing inside: no refusal, also without room");
+    solve(6, 25, arm, pose);
+    uint64_t evaluations = counts[1];
+    check(saihkeb_solve(6, 25, arm, SAIHKEB_ARM, pose, SAIHKEB_POSE, limits, SAIHKEB_LIMITS, angles, 6 * ROOM, flags,
+                        ROOM, counts) == 0 && counts[0] == 0 && counts[1] == evaluations && evaluations >= 26,
+          "the evaluations are those without limits");
+}
+
+/* An arm of family 5 whose axes 5 and 6 meet as the header says: every answer of this pose is NaN. */
+static void nans(void)
+{
+    static const double meeting[SAIHKEB_ARM] = {
+        0, 0, 1,   1, 0, 0,    1, 0, 0,      1, 0, 0,   0, 0, 1,         1, 0, 0,
+        0, 0, 0.2, 0.12, 0, 0, -0.03, 0, 0.5, 0, 0, 0.45, 0.07, 0.02, 0.1, 0.04, 0, 0.03, 0.08, 0, 0,
+    };
+    const double made[SAIHKEB_ANGLES] = {0.5, -0.35, 0.25, 0.7, -1, 1.3};
+    double at[SAIHKEB_POSE], widest[SAIHKEB_LIMITS];
+    for (int i = 0; i < SAIHKEB_LIMITS; i++)
+        widest[i] = i % 2 ? DBL_MAX : -DBL_MAX;
+    check(saihkeb_forward_kinematics(meeting, SAIHKEB_ARM, made, SAIHKEB_ANGLES, at, SAIHKEB_POSE) == 0, "a pose");
+    check(solve(5, 0, meeting, at) == 0 && counts[0] > 0 && isnan(angles[0]), "answers that are NaN");
+    clear();
+    check(saihkeb_solve(5, 0, meeting, SAIHKEB_ARM, at, SAIHKEB_POSE, widest, SAIHKEB_LIMITS, angles, 6 * ROOM, flags,
+                        ROOM, counts) == 0 && counts[0] == 0 && kept(0), "a NaN is outside the widest limits");
+}
+
+static void put_check(uint8_t *block)
+{
+    uint64_t word, sum = 0;
+    for (int i = 0; i < 63; i++) {
         memcpy(&word, block + 8 * i, 8);
         sum += word;
     }
     memcpy(block + 504, &sum, 8);
 }
 
+/* An arm and its pose as a block. */
+static void make_block(uint8_t *block, uint64_t head)
+{
+    memset(block, 0, SAIHKEB_BLOCK);
+    memcpy(block, &head, 8);
+    memcpy(block + 8, arm, sizeof arm);
+    memcpy(block + 8 + sizeof arm, pose, sizeof pose);
+    put_check(block);
+}
+
+static void make_limits_block(uint8_t *block, const double *limits)
+{
+    memset(block, 0, SAIHKEB_BLOCK);
+    block[3] = 1;
+    memcpy(block + 8, limits, SAIHKEB_LIMITS * sizeof *limits);
+    put_check(block);
+}
+
 static uint64_t solve_block(const uint8_t *block, size_t length)
 {
     clear();
-    return saihkeb_solve_block(block, length, angles, 6 * ROOM, flags, ROOM, counts);
+    return saihkeb_solve_block(block, length, NULL, 0, angles, 6 * ROOM, flags, ROOM, counts);
+}
+
+static uint64_t limited_block(const uint8_t *block, size_t length, const double *limits, size_t limits_length)
+{
+    clear();
+    return saihkeb_solve_block(block, length, limits, limits_length, angles, 6 * ROOM, flags, ROOM, counts);
 }
 
 static void blocks(void)
@@ -163,6 +300,94 @@ static void blocks(void)
     check(solve_block(block, SAIHKEB_BLOCK) == 3 && none(), "a reserved byte");
     make_block(block, 9);
     check(solve_block(block, SAIHKEB_BLOCK) == 4 && none(), "a block of family 9");
+}
+
+static void blocks_under_limits(void)
+{
+    uint8_t block[SAIHKEB_BLOCK];
+    double limits[SAIHKEB_LIMITS], by_call[6 * ROOM];
+    make_wide(limits);
+    limits[1] = 0;
+    limited(limits, SAIHKEB_LIMITS);
+    uint64_t stay = counts[0];
+    memcpy(by_call, angles, sizeof by_call);
+    make_block(block, 1);
+    check(limited_block(block, sizeof block, limits, SAIHKEB_LIMITS) == 0 && counts[0] == stay && stay < 8
+              && !memcmp(by_call, angles, sizeof by_call), "a block under limits, as the call");
+    check(limited_block(block, sizeof block, limits, 11) == 10 && none(), "a block with eleven limits");
+    limits[5] = NAN;
+    check(limited_block(block, sizeof block, limits, SAIHKEB_LIMITS) == 10 && none(), "a block with a NaN for a limit");
+    make_block(block, 9);
+    check(limited_block(block, sizeof block, limits, SAIHKEB_LIMITS) == 10 && none(), "block: 10 comes before 4");
+    check(limited_block(block, 511, limits, SAIHKEB_LIMITS) == 1 && none(), "block: 1 comes before 10");
+    block[511] ^= 1;
+    check(limited_block(block, sizeof block, limits, SAIHKEB_LIMITS) == 2 && none(), "block: 2 comes before 10");
+    make_wide(limits);
+    make_limits_block(block, limits);
+    check(limited_block(block, sizeof block, NULL, 0) == 3 && none(), "a limits block is no pose block");
+    check(limited_block(block, sizeof block, limits, 1) == 3 && none(), "block: 3 comes before 10");
+}
+
+/* What the call leaves in twelve numbers, against what it should: those of the block, or the marks. */
+static void limits_block(const uint8_t *block, size_t length, uint64_t refusal, const char *text)
+{
+    double was[SAIHKEB_LIMITS], out[SAIHKEB_LIMITS];
+    for (int i = 0; i < SAIHKEB_LIMITS; i++)
+        was[i] = out[i] = MARK + i;
+    check(saihkeb_limits_block(block, length, out) == refusal, text);
+    check(!memcmp(out, refusal ? (const void *)was : block + 8, sizeof out), text);
+}
+
+static void limits_blocks(void)
+{
+    uint8_t block[SAIHKEB_BLOCK + 1];
+    const uint8_t reserved[] = {0, 1, 2, 4, 5, 6, 7};
+    double limits[SAIHKEB_LIMITS];
+    make_wide(limits);
+    limits[4] = -0.0, limits[5] = 0.0, limits[6] = limits[7] = 1.5;
+    make_limits_block(block, limits);
+    block[SAIHKEB_BLOCK] = 1;
+    limits_block(block, SAIHKEB_BLOCK, 0, "a limits block");
+    limits_block(block, SAIHKEB_BLOCK + 1, 0, "a limits block: bytes past the 512th are not read");
+    for (size_t length = 0; length < SAIHKEB_BLOCK; length++)
+        limits_block(block, length, 1, "a limits block that is short");
+    for (int i = 0; i < SAIHKEB_BLOCK; i++) {
+        block[i] ^= 16;
+        limits_block(block, SAIHKEB_BLOCK, 2, "a damaged limits block");
+        block[i] ^= 16;
+    }
+    for (size_t i = 0; i < sizeof reserved; i++) {
+        block[reserved[i]] = 1;
+        put_check(block);
+        limits_block(block, SAIHKEB_BLOCK, 3, "a limits block with a reserved byte in word 0");
+        block[reserved[i]] = 0;
+    }
+    for (int i = 8 * 13; i < 8 * 63; i++) {
+        block[i] = 128;
+        put_check(block);
+        limits_block(block, SAIHKEB_BLOCK, 3, "a limits block with a reserved byte behind the limits");
+        block[i] = 0;
+    }
+    for (int kind = 0; kind < 256; kind++) {
+        block[3] = (uint8_t)kind;
+        put_check(block);
+        limits_block(block, SAIHKEB_BLOCK, kind == 1 ? 0 : 3, "byte 3");
+    }
+    make_block(block, 1);
+    limits_block(block, SAIHKEB_BLOCK, 3, "a pose block is no limits block");
+    for (int i = 0; i < SAIHKEB_LIMITS; i++) {
+        const double bad[] = {NAN, INFINITY, -INFINITY, i % 2 ? -5.0 : 5.0};
+        for (int j = 0; j < 4; j++) {
+            double was = limits[i];
+            limits[i] = bad[j];
+            make_limits_block(block, limits);
+            limits_block(block, SAIHKEB_BLOCK, 10, "a limits block that is bad");
+            block[6] = 1;
+            put_check(block);
+            limits_block(block, SAIHKEB_BLOCK, 3, "limits block: 3 comes before 10");
+            limits[i] = was;
+        }
+    }
 }
 
 static void forward(void)
@@ -219,7 +444,12 @@ int main(void)
     nulls();
     refusals();
     lists();
+    bad_limits();
+    good_limits();
+    nans();
     blocks();
+    blocks_under_limits();
+    limits_blocks();
     forward();
     rounding();
     thread();

@@ -1,5 +1,5 @@
 #!/usr/bin/env python3
-"""Tests of sheet.py and blocks.py: the block's layout, the sheet's words, every message, the tables.
+"""Tests of sheet.py and blocks.py: the layout of blocks, the sheet's words, every message, the tables.
 
     python3 tools/test/test_sheet.py
 
@@ -47,6 +47,13 @@ row 0 0 1
 place 0.3 0.2 0.9
 """
 ARM_6 = ARM.replace("family 1", "family 6\nn 200")
+LIMITS = """limits -160 160
+limits -170 45
+limits -45 170
+limits -110 170
+limits -100 100
+limits -200 200
+"""
 
 
 def words(block):
@@ -76,6 +83,20 @@ class Layout(unittest.TestCase):
             blocks.make(1, 0, [0.0] * 38, [0.0] * 12)
         with self.assertRaises(ValueError):
             blocks.make(1, 0, [0.0] * 39, [0.0] * 13)
+
+    def test_places_of_the_limits(self):
+        block = blocks.make_limits([float(i) for i in range(-6, 6)])
+        self.assertEqual(len(block), 512)
+        self.assertEqual(block[:8], bytes([0, 0, 0, 1, 0, 0, 0, 0]))
+        self.assertEqual(list(doubles(block)[1:13]), [float(i) for i in range(-6, 6)])
+        self.assertEqual(words(block)[13:63], (0,) * 50)
+        self.assertEqual(words(block)[63], sum(words(block)[:63]) % 2**64)
+        self.assertEqual(words(blocks.make_limits([0.0] * 12))[63], 1 << 24)
+
+    def test_twelve_limits_are_held(self):
+        for count in (0, 11, 13):
+            with self.assertRaises(ValueError):
+                blocks.make_limits([0.0] * count)
 
     def test_check_wraps(self):
         block = blocks.repaired(b"\xff" * 512)
@@ -148,6 +169,67 @@ class Reading(unittest.TestCase):
             self.assertAlmostEqual(got, wanted, places=14)
 
 
+def parts(data):
+    """The blocks, one by one."""
+    return [data[at : at + 512] for at in range(0, len(data), 512)]
+
+
+class ReadingLimits(unittest.TestCase):
+    def kinds(self, text):
+        """L for a limits block, P for a pose block."""
+        return "".join("PL"[block[3]] for block in parts(sheet.parse(text).to_blocks()))
+
+    def test_low_then_high_joint_by_joint_in_radians(self):
+        first, second = parts(sheet.parse(ARM + LIMITS + POSE).to_blocks())
+        ends = [-160, 160, -170, 45, -45, 170, -110, 170, -100, 100, -200, 200]
+        self.assertEqual(list(doubles(first)[1:13]), [math.radians(x) for x in ends])
+        self.assertEqual(first, blocks.make_limits([math.radians(x) for x in ends]))
+        self.assertEqual(second, sheet.parse(ARM + POSE).to_blocks())
+
+    def test_they_are_converted_as_other_angles_are(self):
+        """A sheet's angle of 180 degrees is PI itself, which answers have."""
+        text = ARM + "limits -180 180\n" * 6 + POSE
+        self.assertEqual(doubles(parts(sheet.parse(text).to_blocks())[0])[1:3], (-math.pi, math.pi))
+
+    def test_they_hold_until_the_next_six(self):
+        other = LIMITS.replace("160", "90")
+        self.assertEqual(self.kinds(ARM + POSE), "P")
+        self.assertEqual(self.kinds(ARM + LIMITS + POSE + POSE), "LPP")
+        self.assertEqual(self.kinds(ARM + POSE + LIMITS + POSE + POSE), "PLPP")
+        self.assertEqual(self.kinds(ARM + POSE + LIMITS + POSE + POSE + other + POSE), "PLPPLP")
+        made = sheet.parse(ARM + POSE + LIMITS + POSE + POSE + other + POSE)
+        self.assertEqual([p.limits and p.limits.joints[0][2] for p in made.poses], [None, 160, 160, 90])
+        self.assertEqual(made.limited_poses(), made.poses[1:])
+
+    def test_the_same_again_is_a_block_of_its_own(self):
+        self.assertEqual(self.kinds(ARM + LIMITS + POSE + LIMITS + POSE), "LPLP")
+
+    def test_place_case_and_comments_do_not_matter(self):
+        wanted = sheet.parse(ARM + LIMITS + POSE).to_blocks()
+        spread = LIMITS.replace("\n", "   # a joint\n\n").replace("limits", "  Limits\t")
+        for text in (LIMITS + ARM + POSE, ARM + spread + POSE, LIMITS.replace("\n", "\n" + "# \n", 3) + ARM + POSE):
+            self.assertEqual(sheet.parse(text).to_blocks(), wanted)
+        lines = ARM.splitlines(True)
+        mixed = "".join(lines[:7]) + LIMITS[: LIMITS.index("\n") + 1] + "".join(lines[7:])
+        self.assertEqual(sheet.parse(mixed + LIMITS[LIMITS.index("\n") + 1 :] + POSE).to_blocks(), wanted)
+
+    def test_equal_ends_and_zeros(self):
+        text = ARM + "limits 30 30\nlimits 0 -0\nlimits -0.0 0.0\n" + "limits -1e300 1e300\n" * 3 + POSE
+        block = parts(sheet.parse(text).to_blocks())[0]
+        self.assertEqual(doubles(block)[1:3], (math.radians(30),) * 2)
+        self.assertEqual(words(block)[3:7], (0, 1 << 63, 1 << 63, 0))
+
+    def test_a_low_at_or_below_its_high_stays_so_in_radians(self):
+        """What the sheet takes the program does not refuse."""
+        value = 1e-310
+        for _ in range(4000):
+            above = math.nextafter(value, math.inf)
+            self.assertLessEqual(math.radians(value), math.radians(above))
+            self.assertLessEqual(math.radians(-above), math.radians(-value))
+            value *= 1.37
+        self.assertGreater(value, 1e200)
+
+
 class Messages(unittest.TestCase):
     def refuses(self, text, line, *parts):
         with self.assertRaises(sheet.SheetError) as caught:
@@ -210,6 +292,60 @@ class Messages(unittest.TestCase):
         self.refuses(ARM + POSE + "rpy 0 0 0\n", first, "rows and rpy")
         self.refuses(ARM + POSE + "from angles 0 0 0 0 0 0\n", first, "angles and a rotation")
         self.refuses(ARM + "pose a\nfrom 0 0 0 0 0 0\n", first + 1, "'from' is followed by 'angles'")
+
+    def test_a_bad_limit(self):
+        third = ARM_LINES + 3
+        for bad, *said in (("limits -45", "limits takes 2 numbers, and here are 1"),
+                           ("limits", "here are 0"),
+                           ("limits 3 -45 170", "here are 3"),
+                           ("limits low 170", "'low' is not a number"),
+                           ("limits -45 nan", "'nan' is not a number"),
+                           ("limits -inf 170", "'-inf' is not a number"),
+                           ("limits -45 1e999", "'1e999' is too large"),
+                           ("limits -45 170,5", "'170,5'", "a point, not a comma"),
+                           ("limits 170 -45", "joint 3: low 170 is above high -45"),
+                           ("limits 1e-323 0", "joint 3: low 1e-323 is above high 0")):
+            self.refuses(ARM + LIMITS.replace("limits -45 170", bad) + POSE, third, *said)
+
+    def test_limits_are_six(self):
+        for count in range(1, 6):
+            some = "".join(LIMITS.splitlines(True)[:count])
+            said = f"six lines, joint 1 first, and here are {count} line"
+            self.refuses(ARM + some + POSE, ARM_LINES + count, said)
+            self.refuses(ARM + POSE + some, ARM_LINES + 5 + count, said)
+            self.refuses(ARM + LIMITS + POSE + some + POSE, ARM_LINES + 11 + count, said)
+        self.refuses(ARM + LIMITS + "limits 0 1\n" + POSE, ARM_LINES + 7, "the seventh line 'limits'")
+        self.refuses(ARM + POSE + LIMITS + LIMITS + POSE, ARM_LINES + 12, "the seventh")
+
+    def test_limits_stand_above_a_pose(self):
+        self.refuses(ARM + POSE + LIMITS, ARM_LINES + 11, "no pose stands below its last limits")
+        torn = POSE.replace("row 1 0 0\n", "row 1 0 0\n" + LIMITS)
+        self.refuses(ARM + torn, ARM_LINES + 9, "'row' belongs to a pose, and limits stand between")
+        self.refuses(ARM + LIMITS, ARM_LINES + 6, "has no pose")
+        self.refuses(ARM + LIMITS + "rpy 0 0 0\n", ARM_LINES + 7, "no line 'pose' stands above")
+
+    def limits_notes(self, arm, **joints):
+        """The notes of the limits of a sheet whose joints have no stops but those given."""
+        lines = [f"limits {joints.get(f'q{i}', '-200 200')}\n" for i in range(1, 7)]
+        found = sheet.notes(sheet.parse(arm + "".join(lines) + POSE))
+        return [note for note in found if "limits" in note]
+
+    def test_notes_of_limits_beyond_180(self):
+        self.assertEqual(self.limits_notes(ARM), [])
+        self.assertEqual(self.limits_notes(ARM, q1="-180 180", q2="-300 400", q3="-180 181", q4="20 180"), [])
+        for limits, removed in (("90 270", "-180 to -90"), ("-100 200", "-180 to -160"), ("-170 350", "-180 to -170"),
+                                ("200 270", "-160 to -90"), ("-270 -90", "90 to 180"), ("-225 45", "135 to 180"),
+                                ("-400 100", "100 to 180"), ("-270 -200", "90 to 160")):
+            found = self.limits_notes(ARM, q3=limits)
+            self.assertEqual(len(found), 1, found)
+            self.assertIn(f"line {ARM_LINES + 3}: the limits of joint 3 go beyond 180 degrees", found[0])
+            self.assertIn(f"answers from {removed} are removed", found[0])
+
+    def test_a_note_of_the_searched_angle(self):
+        self.assertIn("q1 of family 6", self.limits_notes(ARM_6, q1="-180 170")[0])
+        self.assertIn("q1 of family 6", self.limits_notes(ARM_6, q1="-90 180")[0])
+        self.assertEqual(self.limits_notes(ARM_6, q1="-181 181", q2="-180 180"), [])
+        self.assertEqual(self.limits_notes(ARM, q1="-180 180"), [])
 
     def test_an_empty_sheet(self):
         self.refuses("", 1, "no family")
@@ -276,9 +412,11 @@ def line(angles, flag):
 
 
 class Tables(unittest.TestCase):
-    def shown(self, text, lines):
+    def shown(self, text, lines, free=()):
+        """`free` has the lines without limits, of the poses that have limits."""
         made = sheet.parse(text)
-        return "\n".join(sheet.show(made, sheet.read_results(lines, len(made.poses))))
+        without = sheet.read_results(free, len(made.limited_poses()))
+        return "\n".join(sheet.show(made, sheet.read_results(lines, len(made.poses)), without))
 
     def test_answers(self):
         lines = ["block 0 refusal 0 answers 3 evals 0",
@@ -343,7 +481,7 @@ class Tables(unittest.TestCase):
         self.assertIn("This does not say that the pose is out of reach", self.shown(ARM_6 + POSE, lines))
 
     def test_every_refusal_in_words(self):
-        for refusal in range(1, 9):
+        for refusal in (*range(1, 9), 10):
             text = self.shown(ARM + POSE, [f"block 0 refusal {refusal} answers 0 evals 0"])
             self.assertIn(f"refused ({refusal}): {sheet.REFUSALS[refusal]}", text)
 
@@ -353,6 +491,68 @@ class Tables(unittest.TestCase):
         self.assertIn("1,432 answers", text)
         self.assertIn("refused (9)", text)
         self.assertIn("the first 1,024 are here", text)
+
+    def head(self, inside, all_of_them, evals=0, text=ARM + LIMITS + POSE):
+        """The first line of a pose with so many answers inside its limits, and of all."""
+        lists = [[f"block 0 refusal 0 answers {n} evals {evals}"] + [line([0.5] * 6, 0)] * n
+                 for n in (inside, all_of_them)]
+        return next(text for text in self.shown(text, *lists).splitlines() if text.startswith("Pose"))
+
+    def test_what_the_limits_removed(self):
+        self.assertEqual(self.head(3, 8), "Pose 1, first: 3 answers; the limits removed 5 of 8")
+        self.assertEqual(self.head(1, 2), "Pose 1, first: 1 answer; the limits removed 1 of 2")
+        self.assertEqual(self.head(8, 8), "Pose 1, first: 8 answers; the limits removed none")
+        self.assertEqual(self.head(0, 8), "Pose 1, first: the limits leave no answer of 8")
+        self.assertEqual(self.head(0, 0), "Pose 1, first: 0 answers, and none without the limits")
+        six = self.head(0, 2, 1201, ARM_6 + LIMITS.replace("160", "200") + POSE)
+        self.assertEqual(six, "Pose 1, first: the limits leave no answer of 2, 1,201 evaluations of the search error")
+
+    def test_only_poses_with_limits_are_compared(self):
+        nothing = "block {} refusal 0 answers 0 evals 0"
+        two = ["block 0 refusal 0 answers 2 evals 0"] + [line([0.5] * 6, 0)] * 2
+        text = self.shown(ARM + POSE + LIMITS + POSE, [*two, nothing.format(1)], two)
+        self.assertIn("Pose 1, first: 2 answers\n", text)
+        self.assertIn("Pose 2, first: the limits leave no answer of 2\n", text)
+        self.assertLess(text.index("Pose 1"), text.index("Limits for the poses below"))
+
+    def test_the_limits_are_shown_where_they_begin(self):
+        nothing = [f"block {i} refusal 0 answers 0 evals 0" for i in range(3)]
+        other = LIMITS.replace("-200 200", "-1e9 1e9")
+        text = self.shown(ARM + LIMITS + POSE + POSE + other + POSE, nothing, nothing)
+        lines = text.splitlines()
+        self.assertEqual(lines[1:7], ["", "Limits for the poses below:",
+                                      "               q1         q2         q3         q4         q5         q6",
+                                      "   low  -160.0000  -170.0000   -45.0000  -110.0000  -100.0000  -200.0000",
+                                      "  high   160.0000    45.0000   170.0000   170.0000   100.0000   200.0000", ""])
+        self.assertEqual(text.count("Limits for the poses below:"), 2)
+        self.assertIn("  100.0000  1.000e+09", text)
+
+    def outside(self, inside, without):
+        """The last line of a pose at zero angles, with these answers inside its limits and without limits."""
+        lists = []
+        for rows in (inside, without):
+            answers = [line([math.radians(a) for a in row], 0) for row in rows]
+            lists.append([f"block 0 refusal 0 answers {len(rows)} evals 0", *answers])
+        text = self.shown(ARM + LIMITS + "pose\nfrom angles 0 0 0 0 0 0\n", *lists)
+        return text.split("\n\n")[2].splitlines()[-1]
+
+    def test_answers_outside_that_make_the_pose(self):
+        makes, misses, nan = [0] * 6, [90] + [0] * 5, [math.nan] * 6
+        verdict = "does not say that the pose is out of reach: README.md"
+        self.assertEqual(self.outside([], [makes, makes, misses]), "  Outside the limits 2 answers make it.")
+        self.assertEqual(self.outside([misses], [makes, misses]),
+                         "  None of these makes the pose. Outside the limits 1 answer makes it.")
+        self.assertEqual(self.outside([], [misses, nan]), f"  This {verdict}")
+        self.assertEqual(self.outside([misses], [misses, misses]), f"  None of these makes the pose, which {verdict}")
+        self.assertNotIn("Outside", self.outside([makes], [makes, makes]))
+        self.assertEqual(self.outside([], []), f"  This {verdict}")
+
+    def test_a_list_that_is_too_long_is_known_in_part(self):
+        long = ["block 0 refusal 9 answers 1432 evals 24646"] + [line([0.0] * 6, 0)] * 1024
+        text = ARM_6 + "limits -200 200\n" * 6 + "pose\nfrom angles 0 0 0 0 0 0\n"
+        shown = self.shown(text, ["block 0 refusal 0 answers 0 evals 24646"], long)
+        self.assertIn("the limits leave no answer of 1,432, 24,646 evaluations", shown)
+        self.assertIn("Outside the limits at least 1,024 answers make it.", shown)
 
     def test_lines_that_do_not_fit(self):
         good = "block 0 refusal 0 answers 0 evals 0"
@@ -405,6 +605,38 @@ class CommandLine(unittest.TestCase):
             self.assertEqual((status, out), (0, "it\n"))
             self.assertEqual(pathlib.Path(path).read_bytes(), sheet.parse(ARM + POSE).to_blocks())
 
+    def test_a_bad_limit_ends_with_2(self):
+        status, out, err = self.run_sheet(ARM + LIMITS.replace("45", "-180") + POSE)
+        self.assertEqual((status, out), (2, ""))
+        self.assertIn("a.sheet, line 16: joint 2: low -170 is above high -180", err)
+
+    def test_the_limits_are_in_the_blocks_and_the_second_run_has_none(self):
+        """A program that notes what it is given, and finds nothing."""
+        text = ARM + POSE + LIMITS + POSE
+        with tempfile.TemporaryDirectory() as folder:
+            noted, path = pathlib.Path(folder) / "noted", pathlib.Path(folder) / "blocks"
+            program = pathlib.Path(folder) / "program.py"
+            program.write_text(
+                "import sys\n"
+                "data = sys.stdin.buffer.read()\n"
+                f"open({str(noted)!r}, 'ab').write(data + b'end')\n"
+                "poses = [at for at in range(0, len(data), 512) if data[at + 3] == 0]\n"
+                "for i in range(len(poses)): print(f'block {i} refusal 0 answers 0 evals 0')\n")
+            options = ["--blocks", str(path), "--program", f"{sys.executable} {program}"]
+            status, out, _ = self.run_sheet(text, *options)
+            self.assertEqual(status, 0)
+            self.assertIn("Pose 2, first: 0 answers, and none without the limits", out)
+            given = sheet.parse(text).to_blocks()
+            pose = given[:512]
+            self.assertEqual(path.read_bytes(), given)
+            self.assertEqual(noted.read_bytes(), given + b"end" + pose + b"end")
+            noted.unlink()
+            self.assertEqual(self.run_sheet(text, "--lines", *options)[0], 0)
+            self.assertEqual(noted.read_bytes(), given + b"end")
+            noted.unlink()
+            self.assertEqual(self.run_sheet(ARM + POSE, *options)[0], 0)
+            self.assertEqual(noted.read_bytes(), pose + b"end")
+
 
 @unittest.skipUnless(ORACLE.exists(), "the reference program is not built")
 class WithOracle(unittest.TestCase):
@@ -417,6 +649,71 @@ class WithOracle(unittest.TestCase):
                          "block 0 refusal 0 answers 0 evals 0\n"
                          "block 1 refusal 0 answers 0 evals 201\n"
                          "block 2 refusal 4 answers 0 evals 0\n")
+
+    def test_limits_blocks_as_the_generator_makes_them(self):
+        seen = 0
+        for kind in ("reachable", "hostile", "round"):
+            for family in "123456":
+                made = parts(self.oracle("generate", kind, family, "5", "20", "2", "--limits"))
+                for block in (block for block in made if len(block) == 512 and block[3] == 1):
+                    if self.oracle("blocks", given=block):
+                        continue
+                    self.assertEqual(blocks.make_limits(doubles(block)[1:13]), block)
+                    seen += 1
+        self.assertGreater(seen, 100)
+
+    def test_limits_of_every_sort(self):
+        """The maker makes bad ones too: the program is to refuse them."""
+        wide = [-4.0, 4.0] * 6
+        for place in range(12):
+            for number, refused in ((math.nan, True), (math.inf, True), (-math.inf, True), (0.0, False),
+                                    (5.0, place % 2 == 0), (-5.0, place % 2 == 1), (4.0, False)):
+                block = blocks.make_limits(wide[:place] + [number] + wide[place + 1 :])
+                said = b"block 0 refusal 10 answers 0 evals 0\n" if refused else b""
+                self.assertEqual(self.oracle("blocks", given=block), said)
+
+    def test_what_is_inside_the_limits(self):
+        """For every family: the lists of the sheet's blocks, against those without limits filtered here."""
+        removed = left = 0
+        program = blocks.command(f"{ORACLE} blocks")
+        for family in "123456":
+            made = parts(self.oracle("generate", "round", family, "8", "12", "25"))
+            for place, block in enumerate(made):
+                text = self.sheet_of(block)
+                ends = [(-160 + 10 * place, 180), (-180, 150), (-180, 180), (-90, 90 + 5 * place), (-180, 180),
+                        (0, 180)]
+                limits = "".join(f"limits {low} {high}\n" for low, high in ends[place % 6 :] + ends[: place % 6])
+                limited = sheet.parse(text.replace("pose", limits + "pose"))
+                inside, = sheet.read_results(blocks.run(program, limited.to_blocks()), 1)
+                free, = sheet.read_results(blocks.run(program, block), 1)
+                numbers = limited.poses[0].limits.numbers()
+                wanted = [(angles, flag) for angles, flag in free.angles
+                          if all(numbers[2 * i] <= q <= numbers[2 * i + 1] for i, q in enumerate(angles))]
+                self.assertEqual(inside.angles, wanted)
+                self.assertEqual((inside.answers, inside.evaluations), (len(wanted), free.evaluations))
+                head = sheet.how_many(inside, free)
+                if wanted and len(wanted) < free.answers:
+                    self.assertIn(f"the limits removed {free.answers - len(wanted)} of {free.answers}", head)
+                elif free.answers > len(wanted):
+                    self.assertEqual(head, f"the limits leave no answer of {free.answers}")
+                removed += free.answers - len(wanted)
+                left += len(wanted)
+        self.assertGreater(min(removed, left), 50)
+
+    def test_the_limits_of_readme(self):
+        """README's lines, put above the first pose of the example, give the table that it shows."""
+        readme = (blocks.ROOT / "README.md").read_text()
+        boxes = [box.strip("\n") for box in readme.split("```")[1::2]]
+        lines, = (box for box in boxes if box.startswith("limits "))
+        shown, = (box for box in boxes if box.startswith("Limits for the poses below:"))
+        text = (blocks.ROOT / "tools" / "example.sheet").read_text()
+        with contextlib.redirect_stderr(io.StringIO()) as err, contextlib.redirect_stdout(io.StringIO()) as out:
+            with tempfile.NamedTemporaryFile("w", suffix=".sheet") as file:
+                file.write(text.replace("pose pick", lines + "\npose pick"))
+                file.flush()
+                self.assertEqual(sheet.main(["--program", f"{ORACLE} blocks", file.name]), 0)
+        self.assertNotIn("note:", err.getvalue())
+        self.assertIn(shown + "\n\n", out.getvalue())
 
     def sheet_of(self, block):
         numbers = [repr(x) for x in doubles(block)]

@@ -115,6 +115,7 @@ fn port(s: &Sample, lent: &mut Lent) {
         s.n,
         &s.arm,
         &s.pose,
+        &[],
         &mut lent.angles,
         &mut lent.flags,
     );

@@ -1,7 +1,8 @@
 /*
  * The most stack that a solve uses: each block of standard input is solved in a thread whose stack
- * was filled with a pattern, and what is left of the pattern is counted. What a thread uses that
- * solves nothing is taken off. Prints, for each family, the number of blocks and the most bytes.
+ * was filled with a pattern, and what is left of the pattern is counted: once without limits, and once
+ * with limits that every answer but a NaN is inside of. What a thread uses that solves nothing is taken
+ * off. Prints, for each family, the number of blocks and the most bytes.
  */
 #define _GNU_SOURCE
 #include <pthread.h>
@@ -28,9 +29,17 @@ static void *nothing(void *argument)
     return argument;
 }
 
+static const double wide[SAIHKEB_LIMITS] = {-4, 4, -4, 4, -4, 4, -4, 4, -4, 4, -4, 4};
+
 static void *solve(void *argument)
 {
-    saihkeb_solve_block(block, sizeof block, angles, 6 * ROOM, flags, ROOM, counts);
+    saihkeb_solve_block(block, sizeof block, NULL, 0, angles, 6 * ROOM, flags, ROOM, counts);
+    return argument;
+}
+
+static void *solve_limited(void *argument)
+{
+    saihkeb_solve_block(block, sizeof block, wide, SAIHKEB_LIMITS, angles, 6 * ROOM, flags, ROOM, counts);
     return argument;
 }
 
@@ -67,10 +76,12 @@ int main(void)
 {
     size_t most[256] = {0}, blocks[256] = {0}, most_forward = 0, least = used(nothing);
     while (fread(block, 1, sizeof block, stdin) == sizeof block) {
-        size_t here = used(solve) - least;
+        size_t here = used(solve) - least, limited = used(solve_limited) - least;
         blocks[block[0]]++;
         if (here > most[block[0]])
             most[block[0]] = here;
+        if (limited > most[block[0]])
+            most[block[0]] = limited;
         here = used(forward) - least;
         if (here > most_forward)
             most_forward = here;

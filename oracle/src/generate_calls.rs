@@ -1,0 +1,357 @@
+//! Calls for comparing a library with this program, made from a seed: good ones, and ones with every
+//! fault, now and then several. Each call depends on the seed and its place alone.
+
+use crate::{
+    arith::Rules,
+    block::{self, BLOCK_BYTES},
+    calls::{Call, Room},
+    generate::{refused_block, sample, spoil_one, wrong_n, Kind, Sample},
+    limited,
+    limits::{Limits, NUMBERS},
+    linalg::Vector6,
+    rng::Rng,
+    solve::full_list,
+};
+
+/// Round poses have answers at zero and at PI.
+const POSES: [Kind; 9] = [
+    Kind::Reachable,
+    Kind::Reachable,
+    Kind::Unreachable,
+    Kind::Bent,
+    Kind::Random,
+    Kind::Hostile,
+    Kind::Degenerate,
+    Kind::Round,
+    Kind::Round,
+];
+
+/// n for family 6: small, for it is the lists and their lengths that are tried here.
+const SAMPLE_COUNTS: [u64; 10] = [1, 1, 2, 2, 3, 5, 7, 12, 25, 25];
+
+/// The call at a place of a generated list.
+pub fn call(seed: u64, place: u64) -> Call {
+    let rng = &mut Rng::of(&[seed, 6, place]);
+    let (kind, n) = (rng.pick(&POSES), rng.pick(&SAMPLE_COUNTS));
+    let s = sample(kind, 1 + place % 6, seed, place, Some(n));
+    match rng.below(8) {
+        0 => solve_block(&s, rng),
+        1 => limits_block(&s, rng),
+        _ => solve(s, rng),
+    }
+}
+
+/// Each fault is seldom by itself: half of the calls have none, and many of the others several.
+fn solve(s: Sample, rng: &mut Rng) -> Call {
+    let (mut family, mut n) = (s.family, s.n);
+    let (mut arm, mut pose) = (s.arm.to_vec(), s.pose.to_vec());
+    if rng.once_in(14) {
+        // What would be the family, or another, if only its lowest bits were looked at.
+        family = rng.pick(&[0, 7, 8, 255, 256, 256 + family, family << 32, u64::MAX]);
+    }
+    if rng.once_in(14) {
+        let wrong = wrong_n(s.family, rng);
+        n = rng.pick(&[wrong, wrong, n + (1 << 16), n + (1 << 32), u64::MAX]);
+    }
+    if rng.once_in(14) {
+        arm = of_length(&arm, rng.pick(&[0, 1, 38, 38, 40, 40, 45, 51, 78]));
+    }
+    if rng.once_in(14) {
+        pose = of_length(&pose, rng.pick(&[0, 1, 11, 11, 13, 13, 24, 39]));
+    }
+    for list in [&mut arm, &mut pose] {
+        if rng.once_in(14) && !list.is_empty() {
+            spoil_one(list, rng);
+        }
+    }
+    let answers = answers_of(family, n, &arm, &pose);
+    let limits = lent_limits(&answers, rng);
+    let room = room_for(staying(&answers, &limits), rng);
+    Call::Solve {
+        family,
+        n,
+        arm,
+        pose,
+        limits,
+        room,
+    }
+}
+
+/// A pose block, good or bad, now and then a limits block, of any length.
+fn solve_block(s: &Sample, rng: &mut Rng) -> Call {
+    let answers = answers_of(s.family, s.n, &s.arm, &s.pose);
+    let block = match rng.below(8) {
+        0..=2 => refused_block(s, rng),
+        3 => limited::limits_block(&answers, rng),
+        _ => block::make(&s.request()),
+    };
+    let block = cut_or_longer(block, rng);
+    let limits = lent_limits(&answers, rng);
+    let room = room_for(staying(&answers, &limits), rng);
+    Call::SolveBlock {
+        block,
+        limits,
+        room,
+    }
+}
+
+/// A limits block, good or bad, now and then a pose block, of any length.
+fn limits_block(s: &Sample, rng: &mut Rng) -> Call {
+    let answers = answers_of(s.family, s.n, &s.arm, &s.pose);
+    let block = match rng.below(8) {
+        0 => block::make(&s.request()),
+        _ => limited::limits_block(&answers, rng),
+    };
+    let block = cut_or_longer(block, rng);
+    Call::LimitsBlock { block }
+}
+
+/// The list without any limits; none where the call is refused.
+fn answers_of(family: u64, n: u64, arm: &[f64], pose: &[f64]) -> Vec<Vector6> {
+    full_list::<Rules>(family, n, arm, pose).map_or(Vec::new(), |list| list.angles)
+}
+
+/// The list's numbers again and again, up to a length.
+fn of_length(list: &[f64], length: usize) -> Vec<f64> {
+    list.iter().copied().cycle().take(length).collect()
+}
+
+fn cut_or_longer(block: [u8; BLOCK_BYTES], rng: &mut Rng) -> Vec<u8> {
+    let length = match rng.below(8) {
+        0 => rng.pick(&[0, 1, 3, 4, 8, 104, 504, 511]),
+        1 => rng.pick(&[513, 520, 1023, 1024]),
+        _ => BLOCK_BYTES,
+    };
+    block.into_iter().cycle().take(length).collect()
+}
+
+/// Limits for a list of answers: none, good ones, bad ones, and lists of another length.
+fn lent_limits(answers: &[Vector6], rng: &mut Rng) -> Vec<f64> {
+    let mut numbers = limited::good(answers, rng);
+    let (cross, infinite, any_length) = match rng.below(20) {
+        0..=3 => return Vec::new(),
+        4 => (true, false, false),
+        5 => (false, true, false),
+        6 => (true, true, rng.once_in(2)),
+        7 | 8 => (false, false, true),
+        _ => (false, false, false),
+    };
+    if cross {
+        limited::cross(&mut numbers, rng);
+    }
+    if infinite {
+        limited::make_infinite(&mut numbers, rng);
+    }
+    let length = if any_length {
+        let long = rng.pick(&[18, 24, 39, 120, 1200]);
+        let short = rng.below(NUMBERS + 3);
+        if rng.once_in(6) {
+            long
+        } else {
+            short
+        }
+    } else {
+        NUMBERS
+    };
+    of_length(&numbers, length)
+}
+
+/// How many answers stay, where the limits are not refused.
+fn staying(answers: &[Vector6], limits: &[f64]) -> usize {
+    match Limits::judge(limits) {
+        Ok(Some(limits)) => answers.iter().filter(|q| limits.admit(q)).count(),
+        _ => answers.len(),
+    }
+}
+
+/// Lists for so many answers: enough, just enough, and too short in every way.
+fn room_for(answers: usize, rng: &mut Rng) -> Room {
+    let numbers = 6 * answers;
+    let (angles, flags) = match rng.below(12) {
+        0..=3 => (
+            numbers + 6 * rng.below(3) + rng.below(6),
+            answers + rng.below(4),
+        ),
+        4 => (numbers, answers),
+        5 => (numbers.saturating_sub(6), answers),
+        6 => (numbers.saturating_sub(1), answers + 1),
+        7 => (numbers + 5, answers.saturating_sub(1)),
+        8 => (0, 0),
+        9 => (rng.below(6), answers),
+        10 => (numbers, 0),
+        _ => (rng.below(numbers + 8), rng.below(answers + 3)),
+    };
+    Room { angles, flags }
+}
+
+#[cfg(test)]
+mod tests {
+    use super::*;
+    use std::collections::{BTreeMap, BTreeSet};
+
+    const COUNT: u64 = 1500;
+
+    fn refusal_of(result: &str) -> u64 {
+        result.split(' ').nth(2).unwrap().parse().unwrap()
+    }
+
+    #[test]
+    fn the_same_arguments_make_the_same_call() {
+        for place in 0..60 {
+            let line = call(5, place).to_string();
+            assert_eq!(line, call(5, place).to_string());
+            assert_ne!(line, call(6, place).to_string());
+            assert_ne!(line, call(5, place + 6).to_string());
+            assert_eq!(Call::parse(&line).unwrap().to_string(), line);
+        }
+    }
+
+    #[test]
+    fn every_refusal_of_every_call_comes() {
+        let mut seen: BTreeMap<&str, BTreeMap<u64, usize>> = BTreeMap::new();
+        for place in 0..COUNT {
+            let call = call(1, place);
+            let refusal = refusal_of(&call.run::<Rules>());
+            let counts = seen.entry(call.name()).or_default();
+            *counts.entry(refusal).or_default() += 1;
+        }
+        let refusals = |name: &str| seen[name].keys().copied().collect::<Vec<u64>>();
+        assert_eq!(refusals("solve"), [0, 4, 5, 6, 7, 8, 9, 10]);
+        assert_eq!(refusals("solve_block"), [0, 1, 2, 3, 4, 7, 8, 9, 10]);
+        assert_eq!(refusals("limits_block"), [0, 1, 2, 3, 10]);
+        assert!(
+            seen["solve"].values().all(|&count| count > 20),
+            "{:?}",
+            seen["solve"]
+        );
+        let accepted = seen["solve"][&0] + seen["solve"][&9];
+        assert!(accepted > COUNT as usize * 3 / 10, "{accepted}");
+    }
+
+    /// The refusals that apply to a solve call, of 10 and 4 to 8.
+    fn faults(call: &Call) -> Vec<u64> {
+        let Call::Solve {
+            family,
+            n,
+            arm,
+            pose,
+            limits,
+            ..
+        } = call
+        else {
+            return Vec::new();
+        };
+        let n_fits = match family {
+            6 => (1..=400).contains(n),
+            _ => *n == 0,
+        };
+        let finite = arm.iter().chain(pose).all(|x| x.is_finite());
+        [
+            (Limits::judge(limits).is_err(), 10),
+            (!(1..=6).contains(family), 4),
+            (arm.len() != 39, 5),
+            (pose.len() != 12, 6),
+            (!n_fits, 7),
+            (!finite, 8),
+        ]
+        .into_iter()
+        .filter(|(applies, _)| *applies)
+        .map(|(_, refusal)| refusal)
+        .collect()
+    }
+
+    #[test]
+    fn several_faults_come_at_once_and_the_first_is_given() {
+        let mut pairs = BTreeSet::new();
+        for place in 0..3 * COUNT {
+            let call = call(2, place);
+            let faults = faults(&call);
+            if let [first, second, ..] = faults[..] {
+                assert_eq!(refusal_of(&call.run::<Rules>()), first);
+                pairs.insert((first, second));
+            }
+        }
+        let neighbours = [(10, 4), (4, 5), (5, 6), (6, 7), (7, 8)];
+        for pair in neighbours {
+            assert!(pairs.contains(&pair), "{pair:?}: {pairs:?}");
+        }
+    }
+
+    #[test]
+    fn limits_of_every_length_and_sort_come() {
+        let (mut lengths, mut sorts) = (BTreeSet::new(), BTreeMap::new());
+        for place in 0..3 * COUNT {
+            let Call::Solve { limits, .. } = call(3, place) else {
+                continue;
+            };
+            lengths.insert(limits.len());
+            if limits.len() != NUMBERS {
+                continue;
+            }
+            let joints = || limits.chunks(2).map(|pair| (pair[0], pair[1]));
+            let minus_zero = (-0.0f64).to_bits();
+            for (sort, has) in [
+                ("crossed", joints().any(|(low, high)| low > high)),
+                ("equal", joints().any(|(low, high)| low == high)),
+                ("-0.0", limits.iter().any(|x| x.to_bits() == minus_zero)),
+                ("NaN", limits.iter().any(|x| x.is_nan())),
+                ("infinite", limits.iter().any(|x| x.is_infinite())),
+                ("wide", joints().all(|(low, high)| high - low >= 6.0)),
+            ] {
+                *sorts.entry(sort).or_insert(0) += has as usize;
+            }
+        }
+        assert!((0..=14).all(|length| lengths.contains(&length)));
+        assert!(lengths.iter().any(|&length| length > 100), "{lengths:?}");
+        assert!(sorts.values().all(|&count| count > 20), "{sorts:?}");
+    }
+
+    /// Among what is accepted limits leave all, some and none of a list, an answer stays whose own
+    /// angle is an end, and the lists are too short in every way.
+    #[test]
+    fn what_is_accepted_is_of_every_sort() {
+        let mut seen = BTreeMap::new();
+        for place in 0..COUNT {
+            let call = call(4, place);
+            let Call::Solve {
+                family,
+                n,
+                ref arm,
+                ref pose,
+                ref limits,
+                room,
+            } = call
+            else {
+                continue;
+            };
+            if !faults(&call).is_empty() {
+                continue;
+            }
+            assert!(n <= 25);
+            let answers = answers_of(family, n, arm, pose);
+            let stay = staying(&answers, limits);
+            let mut saw = |sort: &'static str, has: bool| {
+                *seen.entry(sort).or_insert(0) += has as usize;
+            };
+            if !limits.is_empty() && !answers.is_empty() {
+                saw("all stay", stay == answers.len());
+                saw("some stay", 0 < stay && stay < answers.len());
+                saw("none stays", stay == 0);
+                let judged = Limits::judge(limits).unwrap().unwrap();
+                let at_an_end =
+                    |q: &Vector6| judged.admit(q) && (0..NUMBERS).any(|i| q[i / 2] == limits[i]);
+                saw("at an end", answers.iter().any(at_an_end));
+            }
+            let (sixes, flags) = (room.angles / 6, room.flags);
+            saw("enough", sixes >= stay && flags >= stay);
+            saw("just enough", sixes == stay && flags == stay && stay > 0);
+            saw("angles short", sixes < stay && flags >= stay);
+            saw("flags short", sixes >= stay && flags < stay);
+            saw("both short", sixes < stay && flags < stay);
+            saw("no list", room.angles == 0 && flags == 0 && stay > 0);
+            saw("a part of a six", room.angles % 6 != 0 && sixes < stay);
+        }
+        assert_eq!(seen.len(), 11);
+        assert!(seen.values().all(|&count| count > 15), "{seen:?}");
+    }
+}

@@ -1,0 +1,72 @@
+#!/usr/bin/env bash
+# Holds the library against the reference program, call by call: refusal, counts, and every element of the
+# lists that a call is lent, with arms, poses, limits, blocks and lists of any length.
+#   tools/compare/compare_calls.sh COUNT [SEED]
+# COUNT calls of `oracle generate-calls`, good ones and ones with every fault; SEED is 1 unless given.
+# tools/compare/calls.c makes them from C with target/staticlib/libsaihkeb.a, which rt builds; the
+# environment variable SAIHKEB_LIBRARY names another library, and nothing is built then. Needs rt, cargo and
+# a C compiler. Prints how often each call gave which refusal; exit status 1 where a line differs.
+set -euo pipefail
+[ $# -ge 1 ] || { sed -n '2,8s/^# *//p' "$0" >&2; exit 2; }
+library=$([ -z "${SAIHKEB_LIBRARY:-}" ] || realpath "$SAIHKEB_LIBRARY")
+cd "$(dirname "$0")/../.."
+count=$1 seed=${2:-1}
+chunk=20000
+
+if [ -z "$library" ]; then
+    rt staticlib saihkeb >/dev/null
+    library=target/staticlib/libsaihkeb.a
+fi
+cargo build --release --offline --quiet --manifest-path oracle/Cargo.toml
+oracle=${CARGO_TARGET_DIR:-oracle/target}/release/oracle
+dir=$(mktemp -d)
+trap 'rm -rf "$dir"' EXIT
+${CC:-cc} -std=c99 -O2 -Wall -Wextra -Wpedantic -Wshadow -Werror -D_POSIX_C_SOURCE=200809L -I include \
+    -o "$dir/calls" tools/compare/calls.c "$library" -lm
+
+# The number of lines that differ, a missing one among them.
+differing() {
+    awk -v other="$2" '
+        { if ((getline line < other) <= 0 || line != $0) bad++ }
+        END { while ((getline line < other) > 0) bad++; print bad + 0 }' "$1"
+}
+
+# One chunk through both, and a line for each call and refusal, with their number, to the file of sums.
+compare() { # SEED COUNT
+    local differ=0 status=0
+    "$oracle" generate-calls "$@" >"$dir/in"
+    "$oracle" calls <"$dir/in" >"$dir/want"
+    "$dir/calls" <"$dir/in" >"$dir/got" || status=$?
+    if [ "$status" -ne 0 ] || ! cmp -s "$dir/want" "$dir/got"; then
+        differ=$(differing "$dir/want" "$dir/got")
+        [ "$status" -eq 0 ] || differ=$((differ + 1))
+        echo "DIFFERENT (exit status $status): oracle generate-calls $*" >&2
+        diff "$dir/want" "$dir/got" | head -n 4 | cut -c 1-400 >&2 || true
+    fi
+    echo "differ $differ" >>"$dir/sums"
+    awk '{ seen[$3 " " $5]++; answers += $3 == "limits_block" ? 0 : $7 }
+        END { for (key in seen) print key, seen[key]; print "answers", answers + 0 }' "$dir/want" >>"$dir/sums"
+}
+
+: >"$dir/sums"
+left=$count part=0
+while [ "$left" -gt 0 ]; do
+    now=$((left < chunk ? left : chunk))
+    compare $((seed + 1000003 * part)) "$now"
+    left=$((left - now)) part=$((part + 1))
+done
+
+echo "$count calls, seed $seed; $library"
+sort "$dir/sums" | awk '
+    $1 == "differ" { differ += $2; next }
+    $1 == "answers" { answers += $2; next }
+    { if (!($1 in all)) names[++n] = $1; all[$1] += $3; seen[$1, $2] += $3; if ($2 > most) most = $2 }
+    END {
+        for (i = 1; i <= n; i++) {
+            printf "%s %d, by refusal:", names[i], all[names[i]]
+            for (r = 0; r <= most; r++) if ((names[i], r) in seen) printf " %d: %d", r, seen[names[i], r]
+            print ""
+        }
+        print answers + 0, "answers"
+        print differ + 0, "lines differ"
+        exit differ > 0 }'
