@@ -1,5 +1,5 @@
 -- What is kept in the two lists, answer by answer.
-use Prim.Native.Nat.{ℕ, zero, suc, _+_, _*_, _/_, min, _≤_, _<_}
+use Prim.Native.Nat.{ℕ, zero, suc, _+_, _*_, _≤_, _<_}
 use mathlib.Core.Path.{_≡_, refl, sym, _∙_, ap}
 use mathlib.Core.Bool.{Bool, true, false, cond, true≢false}
 use mathlib.Core.List.{List, [], _∷_, map}
@@ -108,6 +108,11 @@ pub closed : (family n : ℕ) (r : Matrix) (p : Vector3) (kin : Kinematics) (tol
 unfolding by-family
 closed family n r p kin tolerance h = rw (ne-eqb family 6 h)
 
+-- lists with room for eight
+pub eight-room : (qs : List Answer) (a : List Float) (f : List ℕ) → length a ≡ 48 → length f ≡ 8 → length qs ≤ 8 → length qs ≤ room a f
+unfolding room
+eight-room qs a f e e′ h = rw (e, e′) (omega arith)
+
 -- what a family of at most eight answers leaves in lists with room for eight
 pub kept-sixes : (family : ℕ) (arm pose : List Float) {a₀ a : List Float} {b₀ b : List ℕ} {k : ℕ}
     → family ≤ 5
@@ -117,14 +122,13 @@ pub kept-sixes : (family : ℕ) (arm pose : List Float) {a₀ a : List Float} {b
     → length b₀ ≡ 8
     → Wrote (without-search family (pose-rotation pose) (pose-place pose) (from-numbers arm) tolerance) a₀ b₀ a b k
     → Keeps (of-numbers family 0 arm pose) (record { answers = k; evals = 0; searched = false }) arm pose a b
-unfolding listed room
+unfolding listed
 kept-sixes family arm pose {a₀} {a} {b₀} {b} five arm-39 pose-12 a-long b-long w =
     let qs = without-search family (pose-rotation pose) (pose-place pose) (from-numbers arm) tolerance in
     let few : length qs ≤ 8 = without-search-few family (pose-rotation pose) (pose-place pose) (from-numbers arm) tolerance in
     let e = closed family 0 (pose-rotation pose) (pose-place pose) (from-numbers arm) tolerance (λ six. omega arith) in
     let a-same : length a ≡ length a₀ = ap length (w .all-angles) ∙ written-long qs a₀ b₀ in
     let b-same : length b ≡ length b₀ = ap length (w .all-flags) ∙ flagged-long qs a₀ b₀ in
-    let fits : length qs ≤ min (length a₀ / 6) (length b₀) = rw (a-long, b-long) (omega arith) in
     record {
       sound =
           record {
@@ -134,7 +138,7 @@ kept-sixes family arm pose {a₀} {a} {b₀} {b} five arm-39 pose-12 a-long b-lo
             pairs = λ t. absurd (true≢false (sym t));
             sixes = λ _. (omega (arith, w .all-counted), omega (arith, w .all-counted));
           };
-      all = rw e (held-written w fits);
+      all = rw e (held-written w (eight-room qs a₀ b₀ a-long b-long few));
       counted = rw e;
     }
 

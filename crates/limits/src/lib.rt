@@ -3,15 +3,41 @@ use answers::Answer;
 ghost use mathlib.Core.Path.{_≡_};
 ghost use mathlib.Core.Bool.{not};
 ghost use mathlib.Core.List.{_∷_, []};
+ghost use Prim.Native.Nat.{_*_, _≤_};
 ghost use lib.Ieee.{lt};
 ghost use lib.ListN.{length};
 ghost use Rattle.answers.specs.Written.{Wrote};
+ghost use Rattle.answers.specs.Held.{held};
 ghost use Rattle.limits.specs.Limits.{between, all6, Twelve-or-none, inside, allowed, stops-fit, fit, refusal-10};
 
 fn between(low: f64, q: f64, high: f64) -> bool
     ensures { λ r. ⌜ r ≡ between low q high ⌝ }
 {
     if low <= q { q <= high } else { false }
+}
+
+// Writes those of the first n answers of two lists that are inside the limits, and counts them.
+pub fn write_allowed(
+    n: usize,
+    numbers: &[f64],
+    bytes: &[u8],
+    limits: &[f64],
+    angles: &mut [f64],
+    flags: &mut [u8],
+) -> usize
+    requires { ⌜ (n ≤ 17600) × (6 * n ≤ length (now numbers)) × (n ≤ length (now bytes)) × Twelve-or-none (now limits) ⌝ }
+    ensures { λ r. ⌜ Wrote (allowed (now (limits .entry)) (held n (now (numbers .entry)) (now (bytes .entry)))) (now (angles .entry)) (now (flags .entry)) (now (angles .exit)) (now (flags .exit)) r ⌝ }
+{
+    let mut count = 0;
+    let mut k = 0;
+    while k < n {
+        let q = answers::read(numbers, bytes, k);
+        let at = answers::rest(6 * count, angles.len());
+        let on = answers::rest(count, flags.len());
+        count += put_allowed(limits, q, &mut angles[at..], &mut flags[on..]);
+        k += 1;
+    }
+    count
 }
 
 fn in_order(low: f64, high: f64) -> bool

@@ -49,8 +49,17 @@ pub(crate) fn check(
     let arm = record::arm_numbers(head);
     let pose = record::pose_numbers(head);
     let list = full_list::search(n, &arm, &pose, &mut qs, &mut cs);
-    let none = &arm[0..0];
-    let k = full_list::write_allowed(list, &arm, &pose, &qs, &cs, none, &mut angles, &mut flags);
+    let none = [0.0; 1];
+    let k = full_list::write_allowed(
+        list,
+        &arm,
+        &pose,
+        &qs,
+        &cs,
+        &none[0..0],
+        &mut angles,
+        &mut flags,
+    );
     let ok = record::counts(head, k as u64, list.evals);
     cases::count(tally, record::CHECKS, record::SOLVES, ok);
     check_answers(book, m, &angles, &flags, tally);

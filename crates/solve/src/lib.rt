@@ -1,7 +1,6 @@
 // The solve call: it judges its input, solves for the family, writes the answers inside the limits, and
 // gives the refusal and the counts. It equals its definition in specs/ on every input: any family, any
 // n, slices of any length, any numbers.
-use full_list::write_allowed;
 use refusals::judge;
 use refusals::refusal_9;
 ghost use mathlib.Core.Path.{_≡_};
@@ -67,7 +66,7 @@ pub fn solve(
         let mut qs = [0.0; 17600];
         let mut cs = [0u8; 17600];
         let list = full_list::search(n as usize, arm, pose, &mut qs, &mut cs);
-        let count = write_allowed(list, arm, pose, &qs, &cs, limits, angles, flags);
+        let count = full_list::write_allowed(list, arm, pose, &qs, &cs, limits, angles, flags);
         return given(count, list.evals, sixes, bytes);
     }
     // Without limits every answer stays, so that none needs to be looked at again.
@@ -77,7 +76,7 @@ pub fn solve(
     }
     let mut eight = [0.0; 48];
     let mut eight_flags = [0u8; 8];
-    let list = full_list::list_of_eight(family, arm, pose, &mut eight, &mut eight_flags);
-    let count = write_allowed(list, arm, pose, &eight, &eight_flags, limits, angles, flags);
+    let k = full_list::without_search(family, arm, pose, &mut eight, &mut eight_flags);
+    let count = limits::write_allowed(k, &eight, &eight_flags, limits, angles, flags);
     given(count, 0, sixes, bytes)
 }

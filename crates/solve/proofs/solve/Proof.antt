@@ -1,5 +1,5 @@
 -- `solve`: refused with nothing written, or the family's answers inside the limits.
-use Prim.Native.Nat.{ℕ, min, _/_, _≤_}
+use Prim.Native.Nat.{ℕ, min, _*_, _/_, _≤_}
 use mathlib.Core.Path.{_≡_, refl, sym, ap, _∙_}
 use mathlib.Core.Bool.{Bool, true, false, cond}
 use mathlib.Core.List.{List, []}
@@ -10,7 +10,9 @@ use lib.Dec.{eqb}
 use lib.Ieee.{Float}
 use lib.ListN.{length}
 use Rattle.answers.specs.Written.{room, written, flagged, Wrote}
-use Rattle.answers.proofs.Laws.{nothing, by-name}
+use Rattle.answers.specs.Held.{held}
+use Rattle.answers.proofs.Laws.{nothing, by-name, written-long, flagged-long}
+use Rattle.answers.proofs.Held.{held-written}
 use Rattle.kinematics.specs.Kinematics.{from-numbers}
 use Rattle.kinematics.specs.Pose.{pose-rotation, pose-place}
 use Rattle.refusals.specs.Judge.{refusal-9}
@@ -19,7 +21,7 @@ use Rattle.limits.proofs.Filter.{none-allowed, no-limits}
 use Rattle.full_list.specs.Full.{Full, no-search, without-search, tolerance, of-numbers}
 use Rattle.full_list.specs.Listed.{listed, Keeps}
 use Rattle.full_list.specs.declared.FullList.{FullList}
-use Rattle.full_list.proofs.Laws.{closed}
+use Rattle.full_list.proofs.Laws.{without-search-few, closed, eight-room}
 use Rattle.solve.specs.Solve.{refused, full, answers, solve}
 use Rattle.solve.specs.declared.Solved.{Solved}
 use Rattle.solve.proofs.Accepted.{Accepted, accepted, accepted-numbers, accepted-limits}
@@ -111,9 +113,6 @@ module _ (family n : ℕ) (arm pose limits : List Float) {first : ℕ} (e : firs
       no-search-made : 0 ≡ of-numbers family n arm pose .evals
       no-search-made = sym (ap (λ (x : Full). x .evals) (closed family n (pose-rotation pose) (pose-place pose) (from-numbers arm) tolerance other))
 
-      same-list : of-numbers family 0 arm pose ≡ of-numbers family n arm pose
-      same-list = closed family 0 (pose-rotation pose) (pose-place pose) (from-numbers arm) tolerance other ∙ sym (closed family n (pose-rotation pose) (pose-place pose) (from-numbers arm) tolerance other)
-
       module _ (angles : List Float) (flags : List ℕ) {a : List Float} {b : List ℕ} {count : ℕ}
           (none : length limits ≡ 0)
           (w : Wrote (without-search family (pose-rotation pose) (pose-place pose) (from-numbers arm) tolerance) angles flags a b count) where
@@ -129,20 +128,39 @@ module _ (family n : ℕ) (arm pose limits : List Float) {first : ℕ} (e : firs
         flags-direct : b ≡ flagged (answers family n arm pose limits) angles flags
         flags-direct = wrote angles flags direct no-search-made .all-flags
 
-      module _ (angles : List Float) (flags : List ℕ) {eight a : List Float} {bytes b : List ℕ} {l : FullList} {count : ℕ}
-          (k : Keeps (of-numbers family 0 arm pose) l arm pose eight bytes)
-          (w : Wrote (allowed limits (listed l arm pose eight bytes)) angles flags a b count) where
-        listed-first : Wrote (allowed limits (of-numbers family n arm pose .answers)) angles flags a b count
-        listed-first = by-name (rw (← same-list, k .all)) w
+      module _ {eight₀ eight : List Float} {bytes₀ bytes : List ℕ} {k : ℕ}
+          (w₀ : Wrote (without-search family (pose-rotation pose) (pose-place pose) (from-numbers arm) tolerance) eight₀ bytes₀ eight bytes k)
+          (eight-long : length eight₀ ≡ 48)
+          (bytes-long : length bytes₀ ≡ 8) where
+        at-most-8 : k ≤ 8
+        at-most-8 = let few = without-search-few family (pose-rotation pose) (pose-place pose) (from-numbers arm) tolerance in omega (arith, w₀ .all-counted)
 
-        result-listed : {s : Solved} → s ≡ record { refusal = refusal-9 count (min (length angles / 6) (length flags)); answers = count; evals = 0 } → s ≡ solve family n arm pose limits (room angles flags)
-        result-listed e-s = result angles flags listed-first no-search-made e-s
+        not-many : k ≤ 17600
+        not-many = let few = at-most-8 in omega arith
 
-        angles-listed : a ≡ written (answers family n arm pose limits) angles flags
-        angles-listed = wrote angles flags listed-first no-search-made .all-angles
+        in-eight : 6 * k ≤ length eight
+        in-eight = let few = at-most-8 in let same = ap length (w₀ .all-angles) ∙ written-long _ eight₀ bytes₀ in omega arith
 
-        flags-listed : b ≡ flagged (answers family n arm pose limits) angles flags
-        flags-listed = wrote angles flags listed-first no-search-made .all-flags
+        in-bytes : k ≤ length bytes
+        in-bytes = let few = at-most-8 in let same = ap length (w₀ .all-flags) ∙ flagged-long _ eight₀ bytes₀ in omega arith
+
+        module _ (angles : List Float) (flags : List ℕ) {a : List Float} {b : List ℕ} {count : ℕ} (w : Wrote (allowed limits (held k eight bytes)) angles flags a b count) where
+          eight-first : Wrote (allowed limits (of-numbers family n arm pose .answers)) angles flags a b count
+          eight-first =
+              let all = without-search family (pose-rotation pose) (pose-place pose) (from-numbers arm) tolerance in
+              let fits = eight-room all eight₀ bytes₀ eight-long bytes-long (without-search-few family (pose-rotation pose) (pose-place pose) (from-numbers arm) tolerance) in
+              let same : allowed limits (held k eight bytes) ≡ allowed limits (of-numbers family n arm pose .answers) =
+              rw (closed family n (pose-rotation pose) (pose-place pose) (from-numbers arm) tolerance other) (ap (allowed limits) (held-written w₀ fits)) in
+              by-name same w
+
+          result-eight : {s : Solved} → s ≡ record { refusal = refusal-9 count (min (length angles / 6) (length flags)); answers = count; evals = 0 } → s ≡ solve family n arm pose limits (room angles flags)
+          result-eight e-s = result angles flags eight-first no-search-made e-s
+
+          angles-eight : a ≡ written (answers family n arm pose limits) angles flags
+          angles-eight = wrote angles flags eight-first no-search-made .all-angles
+
+          flags-eight : b ≡ flagged (answers family n arm pose limits) angles flags
+          flags-eight = wrote angles flags eight-first no-search-made .all-flags
 
 returns : tie.Need-returns
 returns c = (search result-refused, (search angles-refused, search flags-refused))
@@ -162,14 +180,14 @@ without-search-requires c κs = (search family-low, search family-high, search a
 returns-3 : tie.Need-returns-3
 returns-3 c = (search result-direct, (search angles-direct, search flags-direct))
 
-list-of-eight-requires : tie.Need-list-of-eight-requires
-list-of-eight-requires c κs = (search family-low, search family-high, search arm-fits, search pose-fits, search needs, search needs)
+without-search-requires-2 : tie.Need-without-search-requires-2
+without-search-requires-2 c κs = (search family-low, search family-high, search arm-fits, search pose-fits)
 
 write-allowed-requires-2 : tie.Need-write-allowed-requires-2
-write-allowed-requires-2 c κs = (search needs, search limits-accepted)
+write-allowed-requires-2 c κs = (search not-many, search in-eight, search in-bytes, search limits-accepted)
 
 returns-4 : tie.Need-returns-4
-returns-4 c = (search result-listed, (search angles-listed, search flags-listed))
+returns-4 c = (search result-eight, (search angles-eight, search flags-eight))
 
 pub solve-spec : {M : Type 1} → statement M
 solve-spec =
@@ -194,7 +212,7 @@ solve-spec =
     returns-3
     (λ c. search needs)
     (λ c. search needs)
-    list-of-eight-requires
+    without-search-requires-2
     (λ c. search needs)
     (λ c. search needs)
     write-allowed-requires-2
