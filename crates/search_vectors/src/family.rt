@@ -33,6 +33,29 @@ fn check_answers(
     }
 }
 
+struct Counts {
+    answers: usize,
+    evals: u64,
+}
+
+fn write_answers(
+    head: &[u8; 432],
+    n: usize,
+    angles: &mut [f64; 105600],
+    flags: &mut [u8; 17600],
+) -> Counts {
+    let mut qs = [0.0; 17600];
+    let mut cs = [0u8; 17600];
+    let arm = record::arm_numbers(head);
+    let pose = record::pose_numbers(head);
+    let none = [0.0; 1];
+    let list = full_list::search(n, &arm, &pose, &mut qs, &mut cs);
+    Counts {
+        answers: full_list::write_allowed(list, &arm, &pose, &qs, &cs, &none[0..0], angles, flags),
+        evals: list.evals,
+    }
+}
+
 pub(crate) fn check(
     head: &[u8; 432],
     book: &[u8; 1830400],
@@ -44,23 +67,8 @@ pub(crate) fn check(
 {
     let mut angles = [0.0; 105600];
     let mut flags = [0u8; 17600];
-    let mut qs = [0.0; 17600];
-    let mut cs = [0u8; 17600];
-    let arm = record::arm_numbers(head);
-    let pose = record::pose_numbers(head);
-    let list = full_list::search(n, &arm, &pose, &mut qs, &mut cs);
-    let none = [0.0; 1];
-    let k = full_list::write_allowed(
-        list,
-        &arm,
-        &pose,
-        &qs,
-        &cs,
-        &none[0..0],
-        &mut angles,
-        &mut flags,
-    );
-    let ok = record::counts(head, k as u64, list.evals);
+    let c = write_answers(head, n, &mut angles, &mut flags);
+    let ok = record::counts(head, c.answers as u64, c.evals);
     cases::count(tally, record::CHECKS, record::SOLVES, ok);
     check_answers(book, m, &angles, &flags, tally);
 }
