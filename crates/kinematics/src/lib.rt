@@ -35,7 +35,7 @@ pub struct Pose {
 }
 
 // The three numbers from i on.
-fn vector_at(numbers: &[f64], i: usize) -> Vector3
+pub fn vector_at(numbers: &[f64], i: usize) -> Vector3
     requires { ⌜ i + 3 ≤ length (now numbers) ⌝ }
     ensures { λ r. ⌜ r ≡ vector-at (now (numbers .entry)) i ⌝ }
 {
