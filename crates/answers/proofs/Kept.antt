@@ -6,7 +6,8 @@ use lib.Ieee.{Float}
 use lib.ListN.{length, take, drop, length-map}
 use lib.Seq.{take-at, drop-at}
 use Rattle.answers.specs.Answer.{six, byte}
-use Rattle.answers.specs.Written.{fitting, written, flagged, Wrote}
+use Rattle.answers.specs.Rows.{written-of, flagged-of}
+use Rattle.answers.specs.Written.{fitting, Wrote}
 use Rattle.answers.specs.declared.Answer.{Answer}
 use Rattle.answers.proofs.Laws.{length-six, written-long, flagged-long}
 
@@ -20,7 +21,7 @@ pub record Kept (first : List Answer) (a₀ : List Float) (f₀ : List ℕ) (a :
   pub flags-long : length f ≡ length f₀
 
 pub kept : (answers : List Answer) (a₀ a : List Float) (f₀ f : List ℕ) (r : ℕ) → Wrote answers a₀ f₀ a f r → Kept (fitting answers a₀ f₀) a₀ f₀ a f
-unfolding written flagged
+unfolding written-of flagged-of
 kept answers a₀ a f₀ f r w =
     let qs = fitting answers a₀ f₀ in
     record {

@@ -1,3 +1,6 @@
+pub mod Rows
+pub mod RowSteps
+pub mod One
 pub mod Laws
 pub mod Held
 pub mod Steps

@@ -1,63 +1,28 @@
--- A loop that writes the answers of each p of a list, one after the other: the rest of both lists is lent to the function that writes those of one.
-use Prim.Native.Nat.{ℕ, zero, suc, min, _+_, _*_, _-_, _<_, _≤_}
-use mathlib.Core.Path.{_≡_, refl, sym, _∙_, ap}
-use mathlib.Core.List.{List, [], _∷_, _++_, flatMap, append-nil}
-use native.Mathlib.Nat.{zero-min, suc-min-suc, le-trans, mul-le-mul-left}
-use native.Mathlib.Numerals.{add-one}
+-- The laws of RowSteps.antt for answers of six numbers, and how many answers a loop writes.
+use Prim.Native.Nat.{ℕ, min, _+_, _*_, _-_, _<_, _≤_}
+use mathlib.Core.Path.{_≡_}
+use mathlib.Core.List.{List, [], _∷_, flatMap}
+use native.Mathlib.Nat.{le-trans, mul-le-mul-left}
 use native.Mathlib.Omega.{arith}
 use borrow.Rule.Slice.PartMut.{putMid, midOf}
 use lib.Ieee.{Float}
-use lib.ListN.{length, take, drop, getD, length-append, length-drop, drop-of-length-le}
-use lib.Seq.{take-all, take-suc, take-nil, drop-nil}
-use Rattle.answers.specs.Written.{Wrote}
+use lib.ListN.{length, getD, length-append}
+use Rattle.answers.specs.Written.{sixes, Wrote}
 use Rattle.answers.specs.declared.Answer.{Answer}
-use Rattle.answers.proofs.Laws.{flatMap-append, written-long, flagged-long, next, nothing}
+use Rattle.answers.proofs.Laws.{six-good}
+use Rattle.answers.proofs.RowSteps as Rows
+use Rattle.answers.proofs.RowSteps.{StepsOf}
 
--- the k answers of the first i of the n members of l are written, where each member has at most so many (17,600 is 44 × 400, the most that there are in family 6)
-pub record Steps {P : Type 0} (g : P → List Answer) (l : List P) (n each : ℕ) (a₀ : List Float) (f₀ : List ℕ) (a : List Float) (f : List ℕ) (k i : ℕ) : Type 0 where
-  pub within : i ≤ n
-  pub all : n ≡ length l
-  pub few : n ≤ 17600
-  pub bound : k ≤ each * i
-  pub wrote : Wrote (flatMap g (take i l)) a₀ f₀ a f k
-
--- the rest of a list from n on, or from its end where that comes first
-drop-min : {A : Type 0} (n : ℕ) (l : List A) → drop (min n (length l)) l ≡ drop n l
-drop-min n [] = rw (drop-nil (min n 0), drop-nil n)
-drop-min zero (x ∷ l) = rw zero-min
-drop-min (suc n) (x ∷ l) = rw suc-min-suc (drop-min n l)
-
-take-min : {A : Type 0} (n : ℕ) (l : List A) → take (min n (length l)) l ≡ take n l
-take-min n [] = rw (take-nil (min n 0), take-nil n)
-take-min zero (x ∷ l) = rw zero-min
-take-min (suc n) (x ∷ l) = rw (suc-min-suc, take-min n l)
-
--- as it is lent
-lent : {A : Type 0} (n : ℕ) (l : List A) {at : ℕ} → at ≡ min n (length l) → midOf at (length l - at) l ≡ drop n l
-lent n l {at} e =
-    let whole : length (drop at l) ≤ length l - at = rw length-drop (omega arith) in
-    take-all (length l - at) (drop at l) whole ∙ rw e (drop-min n l)
-
--- as it comes back
-back : {A : Type 0} (n : ℕ) (l l′ : List A) {at : ℕ} → at ≡ min n (length l) → putMid at (length l - at) l l′ ≡ take n l ++ l′
-back n l l′ {at} e =
-    let whole : length (drop at l) ≤ length l - at = rw length-drop (omega arith) in
-    rw (drop-of-length-le (drop at l) whole, append-nil l′, e) (ap (λ (t : List _). t ++ l′) (take-min n l))
+abbrev pub Steps : {P : Type 0} → (P → List Answer) → List P → ℕ → ℕ → List Float → List ℕ → List Float → List ℕ → ℕ → ℕ → Type 0
+Steps g l n each a₀ f₀ a f k i = StepsOf sixes g l n each a₀ f₀ a f k i
 
 module _ {P : Type 0} (g : P → List Answer) (l : List P) where
-  one-more : (d : P) (i : ℕ) → i < length l → flatMap g (take (i + 1) l) ≡ flatMap g (take i l) ++ g (getD l i d)
-  unfolding flatMap
-  one-more d i h = rw (add-one i, take-suc l i d h, flatMap-append, append-nil)
-
   pub start-long : (n each : ℕ) (a : List Float) (f : List ℕ) → n ≡ length l → n ≤ 17600 → Steps g l n each a f a f 0 0
-  unfolding flatMap
-  start-long n each a f e h = record { within = omega arith; all = e; few = h; bound = omega arith; wrote = nothing a f }
+  start-long = Rows.start-long sixes six-good g l
 
-  -- over the answers of one subproblem
   pub start : (n each : ℕ) (a : List Float) (f : List ℕ) → n ≡ length l → n ≤ 4 → Steps g l n each a f a f 0 0
-  start n each a f e h = start-long n each a f e (omega arith)
+  start = Rows.start sixes six-good g l
 
-  -- a step: p is the member with the number i, the rest of the lists begins at `at` and `on`, and came back as a′ and f′
   pub again : (d : P) (n each : ℕ) {a₀ a a′ : List Float} {f₀ f f′ : List ℕ} {k i at on r : ℕ} {p : P}
       → ((x : P) → length (g x) ≤ each)
       → Steps g l n each a₀ f₀ a f k i
@@ -67,34 +32,23 @@ module _ {P : Type 0} (g : P → List Answer) (l : List P) where
       → on ≡ min k (length f)
       → Wrote (g p) (midOf at (length a - at) a) (midOf on (length f - on) f) a′ f′ r
       → Steps g l n each a₀ f₀ (putMid at (length a - at) a a′) (putMid on (length f - on) f f′) (k + r) (i + 1)
-  again d n each {a₀} {a} {a′} {f₀} {f} {f′} {k} {i} {r = r} {p = p} small t h e e-at e-on w =
-      let w′ : Wrote (g p) (drop (6 * k) a) (drop k f) a′ f′ r = rw (lent (6 * k) a e-at, lent k f e-on) at w in
-      let more : Wrote (flatMap g (take i l) ++ g p) a₀ f₀ (take (6 * k) a ++ a′) (take k f ++ f′) (k + r) = next (t .wrote) w′ in
-      let all : flatMap g (take (i + 1) l) ≡ flatMap g (take i l) ++ g p = rw e (one-more d i (omega (arith, t .all))) in
-      record {
-        within = omega arith;
-        all = t .all;
-        few = t .few;
-        bound = omega (arith, small p, w .all-counted, t .bound);
-        wrote = rw (all, back (6 * k) a a′ e-at, back k f f′ e-on) more;
-      }
+  again d n each small t h e e-at e-on w = Rows.again sixes six-good g l d n each small t h e e-at e-on w
 
-  -- the number of answers stays small
   pub small-sum : (n each : ℕ) {a₀ a b₀ b : List Float} {f₀ f g₀ g′ : List ℕ} {k i r : ℕ} {p : P}
       → ((x : P) → length (g x) ≤ each)
       → Steps g l n each a₀ f₀ a f k i
       → Wrote (g p) b₀ g₀ b g′ r
       → (k + r ≤ each * i + each) × (i ≤ 17600)
-  small-sum n each {p = p} small t w = (omega (arith, small p, w .all-counted, t .bound), omega (arith, t .within, t .few))
+  small-sum n each {p = p} small t w = Rows.small-sum sixes six-good g l n each {p = p} small t w
 
   pub end : (n each : ℕ) {a₀ a : List Float} {f₀ f : List ℕ} {k i : ℕ} → n ≤ i → Steps g l n each a₀ f₀ a f k i → Wrote (flatMap g l) a₀ f₀ a f k
-  end n each {i = i} h t = rw (take-all i l (omega (arith, t .all))) at (t .wrote)
+  end n each h t = Rows.end sixes six-good g l n each h t
 
   pub angles-kept : (n each : ℕ) (a₀ a : List Float) (f₀ f : List ℕ) (k i : ℕ) → Steps g l n each a₀ f₀ a f k i → length a ≡ length a₀
-  angles-kept n each a₀ a f₀ f k i t = ap length (t .wrote .all-angles) ∙ written-long _ a₀ f₀
+  angles-kept = Rows.angles-kept sixes six-good g l
 
   pub flags-kept : (n each : ℕ) (a₀ a : List Float) (f₀ f : List ℕ) (k i : ℕ) → Steps g l n each a₀ f₀ a f k i → length f ≡ length f₀
-  flags-kept n each a₀ a f₀ f k i t = ap length (t .wrote .all-flags) ∙ flagged-long _ a₀ f₀
+  flags-kept = Rows.flags-kept sixes six-good g l
 
 -- the number of answers
 each-few : {P : Type 0} (g : P → List Answer) (each : ℕ) (l : List P) → ((x : P) → length (g x) ≤ each) → length (flatMap g l) ≤ each * length l

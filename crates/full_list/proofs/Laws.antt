@@ -10,6 +10,7 @@ use lib.Dec.{eqb}
 use lib.Ieee.{Float, nan}
 use lib.ListN.{length, getD, length-map}
 use Rattle.answers.specs.Held.{read, held}
+use Rattle.answers.specs.Rows.{room-of}
 use Rattle.answers.specs.Written.{room, Wrote}
 use Rattle.answers.specs.declared.Answer.{Answer}
 use Rattle.answers.proofs.Held.{held-at, held-long, held-written}
@@ -110,7 +111,7 @@ closed family n r p kin tolerance h = rw (ne-eqb family 6 h)
 
 -- lists with room for eight
 pub eight-room : (qs : List Answer) (a : List Float) (f : List ℕ) → length a ≡ 48 → length f ≡ 8 → length qs ≤ 8 → length qs ≤ room a f
-unfolding room
+unfolding room-of
 eight-room qs a f e e′ h = rw (e, e′) (omega arith)
 
 -- what a family of at most eight answers leaves in lists with room for eight

@@ -9,6 +9,7 @@ use lib.Ieee.{Float, nan}
 use lib.ListN.{length, take, drop, getD, length-take}
 use lib.Seq.{drop-drop, take-all}
 use Rattle.answers.specs.Answer.{six, flag, byte}
+use Rattle.answers.specs.Rows.{room-of, fitting-of, written-of, flagged-of}
 use Rattle.answers.specs.Written.{room, fitting, written, flagged}
 use Rattle.answers.specs.declared.Answer.{Answer}
 use Rattle.text.specs.Text.{digits, places, decimal}
@@ -54,7 +55,7 @@ blank = record { q1 = nan; q2 = nan; q3 = nan; q4 = nan; q5 = nan; q6 = nan; «i
 -- the lists that were lent, with room for 1,024 answers
 pub printed : (qs : List Answer) (a : List Float) (f : List ℕ) {n : ℕ} → length a ≡ 6144 → length f ≡ 1024 → n ≡ min (length qs) 1024
     → lines-of (written qs a f) (flagged qs a f) n ≡ flatMap answer-line (take 1024 qs)
-unfolding written flagged fitting room
+unfolding written-of flagged-of fitting-of room-of
 printed qs a f {n} ha hf e =
     let first = fitting qs a f in
     let is : first ≡ take 1024 qs = rw (ha, hf) in

@@ -1,44 +1,36 @@
 -- One answer: it fits both lists, or one of them is too short.
 use Prim.Native.Nat.{ℕ, _<_, _≤_}
-use mathlib.Core.Path.{_≡_, refl}
-use mathlib.Core.List.{List, [], _∷_, flatMap}
+use mathlib.Core.Path.{_≡_}
+use mathlib.Core.List.{List, [], _∷_}
 use native.Mathlib.Omega.{arith}
 use borrow.Author.Needs.{needs}
 use lib.Ieee.{Float}
 use lib.ListN.{length, set}
-use lib.Seq.{sets, sets-eq, set-split, take-all}
+use lib.Seq.{sets}
 use Rattle.answers.specs.Answer.{six, flag}
-use Rattle.answers.specs.Written.{room, fitting, written, flagged, Wrote}
+use Rattle.answers.specs.Rows.{room-of}
+use Rattle.answers.specs.Written.{sixes, room, Wrote}
 use Rattle.answers.specs.declared.Answer.{Answer}
+use Rattle.answers.proofs.Laws.{six-good}
+use Rattle.answers.proofs.One as One
 use Rattle.answers.proofs.put.Statement.{statement}
 use Rattle.answers.proofs.put.Tie as tie
 
 module _ (q : Answer) (a : List Float) (f : List ℕ) where
-  none : room a f ≡ 0 → Wrote (q ∷ []) a f a f 1
-  unfolding written flagged fitting flatMap
-  none e = record { all-angles = rw e; all-flags = rw e; all-counted = refl }
-
   few-angles : length a < 6 → Wrote (q ∷ []) a f a f 1
-  unfolding room
-  few-angles h = none (omega arith)
+  unfolding room-of
+  few-angles h = One.none sixes six-good q a f (omega arith)
 
   few-flags : length f < 1 → Wrote (q ∷ []) a f a f 1
-  unfolding room
-  few-flags h = none (omega arith)
+  unfolding room-of
+  few-flags h = One.none sixes six-good q a f (omega arith)
 
-  first : 6 ≤ length a → 1 ≤ length f → fitting (q ∷ []) a f ≡ q ∷ []
-  unfolding fitting room
-  first h h′ = take-all (room a f) (q ∷ []) (omega arith)
+  some-room : 6 ≤ length a → 1 ≤ length f → 1 ≤ room a f
+  unfolding room-of
+  some-room h h′ = omega arith
 
   fits : {a′ : List Float} {b : ℕ} → 6 ≤ length a → 1 ≤ length f → a′ ≡ sets a 0 (six q) → b ≡ flag (q .«is_ls») → Wrote (q ∷ []) a f a′ (set f 0 b) 1
-  unfolding written flagged flatMap
-  fits h h′ e e′ =
-      let one = first h h′ in
-      record {
-        all-angles = rw (one, e) (sets-eq (six q) a 0 h);
-        all-flags = rw (one, e′) (set-split f 0 (flag (q .«is_ls»)) h′);
-        all-counted = refl;
-      }
+  fits h h′ e e′ = One.fits sixes six-good q a f (some-room h h′) h h′ e e′
 
 returns : tie.Need-returns
 returns c = search few-angles

@@ -5,6 +5,7 @@ use mathlib.Core.List.{List}
 use borrow.Author.Needs.{needs}
 use lib.Ieee.{Float}
 use lib.ListN.{length}
+use Rattle.answers.specs.Rows.{room-of}
 use Rattle.answers.specs.Written.{room, written, flagged}
 use Rattle.solve.specs.declared.Solved.{Solved}
 use Rattle.text.specs.Text.{Put}
@@ -18,7 +19,7 @@ use Rattle.lines.proofs.pose_lines.Statement.{statement}
 use Rattle.lines.proofs.pose_lines.Tie as tie
 
 space : (a : List Float) (f : List ℕ) → length a ≡ 6144 → length f ≡ 1024 → room a f ≡ 1024
-unfolding room
+unfolding room-of
 space a f a-long f-long = rw (a-long, f-long)
 
 met : (bytes : List ℕ) (place : ℕ) (l a : List Float) (f : List ℕ)

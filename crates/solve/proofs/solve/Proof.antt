@@ -9,6 +9,7 @@ use borrow.Author.Tests.{eq-eqb, ne-eqb, eqb-false}
 use lib.Dec.{eqb}
 use lib.Ieee.{Float}
 use lib.ListN.{length}
+use Rattle.answers.specs.Rows.{room-of}
 use Rattle.answers.specs.Written.{room, written, flagged, Wrote}
 use Rattle.answers.specs.Held.{held}
 use Rattle.answers.proofs.Laws.{nothing, by-name, written-long, flagged-long}
@@ -81,7 +82,7 @@ module _ (family n : ℕ) (arm pose limits : List Float) {first : ℕ} (e : firs
       wrote = by-name (rw solves) w
 
       result : {s : Solved} → s ≡ record { refusal = refusal-9 count (min (length angles / 6) (length flags)); answers = count; evals = evals } → s ≡ solve family n arm pose limits (room angles flags)
-      unfolding solve room
+      unfolding solve room-of
       result e-s =
           let t = eq-eqb first 0 h in
           let f = ap (λ (x : Full). x .evals) solves in

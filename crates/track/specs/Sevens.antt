@@ -1,0 +1,15 @@
+-- Answers of an arm on a track. Document 02, request 2: "puts the locked angle back in its place, so an answer is seven numbers and 9 counts sevens".
+use Prim.Native.Nat.{ℕ}
+use mathlib.Core.List.{List, _∷_, _++_}
+use lib.Ieee.{Float}
+use lib.ListN.{take, drop}
+use Rattle.answers.specs.Answer.{six}
+use Rattle.answers.specs.Rows.{Form}
+use Rattle.answers.specs.declared.Answer.{Answer}
+
+-- the six angles with the locked one at its joint, counted from 0
+unfoldable pub seven : ℕ → Float → Answer → List Float
+seven joint angle q = take joint (six q) ++ angle ∷ drop joint (six q)
+
+abbrev pub sevens : ℕ → Float → Form
+sevens joint angle = record { wide = 7; numbers = seven joint angle }
