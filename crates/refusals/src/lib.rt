@@ -3,13 +3,13 @@ ghost use mathlib.Core.Path.{_≡_};
 ghost use Prim.Native.Nat.{min};
 ghost use Rattle.refusals.specs.Judge.{within, samples-fit, first-not-finite, all-finite, judge, refusal-9};
 
-fn within(low: u64, x: u64, high: u64) -> bool
+pub fn within(low: u64, x: u64, high: u64) -> bool
     ensures { λ r. ⌜ r ≡ within low x high ⌝ }
 {
     if low <= x { x <= high } else { false }
 }
 
-fn samples_fit(family: u64, n: u64) -> bool
+pub fn samples_fit(family: u64, n: u64) -> bool
     ensures { λ r. ⌜ r ≡ samples-fit family n ⌝ }
 {
     if family == 6 {
@@ -33,7 +33,7 @@ pub fn first_not_finite(numbers: &[f64]) -> usize
     i
 }
 
-fn all_finite(numbers: &[f64]) -> bool
+pub fn all_finite(numbers: &[f64]) -> bool
     ensures { λ r. ⌜ r ≡ all-finite (now (numbers .entry)) ⌝ }
 {
     numbers.len() <= first_not_finite(numbers)

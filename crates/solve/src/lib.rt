@@ -29,7 +29,7 @@ fn refused(family: u64, n: u64, arm: &[f64], pose: &[f64], limits: &[f64]) -> u6
 }
 
 // What a call gives that was not refused: 9 where the answers do not fit both lists.
-fn given(answers: usize, evals: u64, sixes: usize, bytes: usize) -> Solved
+pub fn given(answers: usize, evals: u64, sixes: usize, bytes: usize) -> Solved
     ensures { λ r. ⌜ r ≡ record { refusal = refusal-9 answers (min sixes bytes); answers = answers; evals = evals } ⌝ }
 {
     Solved {

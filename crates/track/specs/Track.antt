@@ -21,17 +21,18 @@ lockable joint angle = leb joint 6 && is-finite angle
 abbrev pub reduced-finite : List Float → ℕ → Float → List Float → Bool
 reduced-finite arm joint angle pose = all-finite (reduced-arm arm joint angle) && all-finite (handed-on arm joint angle pose)
 
-unfoldable pub track-refused : ℕ → ℕ → List Float → ℕ → Float → List Float → ℕ
-track-refused family n arm joint angle pose =
+unfoldable pub track-judge : ℕ → ℕ → List Float → ℕ → Float → List Float → ℕ
+track-judge family n arm joint angle pose =
     cond (known family)
     (cond (eqb (length arm) 45)
-    (cond (eqb (length pose) 12)
-    (cond (lockable joint angle)
-    (cond (samples-fit family n) (cond (all-finite arm && all-finite pose) (cond (reduced-finite arm joint angle pose) 0 8) 8) 7)
-    11)
-    6)
+    (cond (eqb (length pose) 12) (cond (lockable joint angle) (cond (samples-fit family n) (cond (all-finite arm && all-finite pose) 0 8) 7) 11) 6)
     5)
     4
+
+unfoldable pub track-refused : ℕ → ℕ → List Float → ℕ → Float → List Float → ℕ
+track-refused family n arm joint angle pose =
+    let first = track-judge family n arm joint angle pose in
+    cond (eqb first 0) (cond (reduced-finite arm joint angle pose) 0 8) first
 
 -- what a call solves: nothing where it refuses
 unfoldable pub track-full : ℕ → ℕ → List Float → ℕ → Float → List Float → Full
@@ -50,3 +51,9 @@ solve-track family n arm joint angle pose room =
     let count = length (track-answers family n arm joint angle pose) in
     let first = track-refused family n arm joint angle pose in
     record { refusal = cond (eqb first 0) (refusal-9 count room) first; answers = count; evals = track-full family n arm joint angle pose .evals }
+
+-- what solving the arm that is left gives, with room for so many sevens
+unfoldable pub solve-left : ℕ → ℕ → List Float → List Float → ℕ → Solved
+solve-left family n left to room =
+    let f = of-numbers family n left to in
+    record { refusal = refusal-9 (length (f .answers)) room; answers = length (f .answers); evals = f .evals }

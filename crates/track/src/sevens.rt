@@ -7,7 +7,7 @@ ghost use lib.ListN.{length};
 ghost use lib.Seq.{sets};
 ghost use Rattle.answers.specs.Answer.{flag};
 ghost use Rattle.answers.specs.Rows.{WroteOf};
-ghost use Rattle.track.specs.Sevens.{seven, sevens};
+ghost use Rattle.track.specs.Sevens.{seven, parts, sevens};
 
 // The seven angles of an answer.
 fn seven(q: Answer, joint: usize, angle: f64) -> [f64; 7]
@@ -34,7 +34,7 @@ fn flag(is_ls: bool) -> u8
 // Seven numbers to the start of a list that has room for them.
 fn write_seven(angles: &mut [f64], row: [f64; 7])
     requires { ⌜ 7 ≤ length (now angles) ⌝ }
-    ensures { λ _. ⌜ now (angles .exit) ≡ sets (now (angles .entry)) 0 row ⌝ }
+    ensures { λ _. ⌜ now (angles .exit) ≡ sets (now (angles .entry)) 0 (parts row) ⌝ }
 {
     angles[0] = row[0];
     angles[1] = row[1];

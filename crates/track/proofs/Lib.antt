@@ -1,0 +1,3 @@
+pub mod SevenRows
+pub mod Accepted
+pub mod Numbers
