@@ -1,13 +1,16 @@
-// The library that a controller links: the solve call, the block call, the limits block and forward
-// kinematics for C and Rust (include/saihkeb.h is its manual). No call asks anything of its numbers or of its lists'
+// The library that a controller links: the solve call, the block call, the limits block, the track
+// call and forward kinematics for C and Rust (include/saihkeb.h is its manual). No call asks anything of its numbers or of its lists'
 // lengths: each equals its definition on every input. A list is lent, so its pointer is never null;
 // the header's functions of the short names take a null pointer too.
 use solve::Solved;
 ghost use mathlib.Core.Path.{_≡_};
 ghost use lib.Seq.{sets};
+ghost use Rattle.answers.specs.Rows.{room-of, written-of, flagged-of};
 ghost use Rattle.answers.specs.Written.{room, written, flagged};
 ghost use Rattle.solve.specs.Solve.{answers, solve};
 ghost use Rattle.solve_block.specs.SolveBlock.{solve-block, block-answers};
+ghost use Rattle.track.specs.Sevens.{sevens};
+ghost use Rattle.track.specs.Track.{track-answers, solve-track};
 ghost use Rattle.limits_block.specs.LimitsBlock.{limits-refusal, in-force};
 ghost use Rattle.forward.specs.Forward.{forward-refusal, forward-pose};
 ghost use Rattle.saihkeb.specs.Library.{counts-of};
@@ -73,6 +76,30 @@ pub extern "C" fn saihkeb_limits_block_lent(block: &[u8], limits: &mut [f64; 12]
     ensures limits { λ _. ⌜ now (limits .exit) ≡ in-force (now (block .entry)) (now (limits .entry)) ⌝ }
 {
     limits_block::limits_block(block, limits)
+}
+
+// The track call: an arm of seven axes with one joint locked; an answer is seven angles.
+#[no_mangle]
+pub extern "C" fn saihkeb_solve_track_lent(
+    family: u64,
+    n: u64,
+    arm: &[f64],
+    joint: u64,
+    angle: f64,
+    pose: &[f64],
+    angles: &mut [f64],
+    flags: &mut [u8],
+    counts: &mut [u64; 2],
+) -> u64
+    ensures result { λ r. ⌜ r ≡ solve-track family n (now (arm .entry)) joint angle (now (pose .entry)) (room-of (sevens joint angle) (now (angles .entry)) (now (flags .entry))) .refusal ⌝ }
+    ensures angles { λ _. ⌜ now (angles .exit) ≡ written-of (sevens joint angle) (track-answers family n (now (arm .entry)) joint angle (now (pose .entry))) (now (angles .entry)) (now (flags .entry)) ⌝ }
+    ensures flags { λ _. ⌜ now (flags .exit) ≡ flagged-of (sevens joint angle) (track-answers family n (now (arm .entry)) joint angle (now (pose .entry))) (now (angles .entry)) (now (flags .entry)) ⌝ }
+    ensures counts { λ _. ⌜ now (counts .exit) ≡ sets (now (counts .entry)) 0 (counts-of (solve-track family n (now (arm .entry)) joint angle (now (pose .entry)) (room-of (sevens joint angle) (now (angles .entry)) (now (flags .entry))))) ⌝ }
+{
+    report(
+        track::solve_track(family, n, arm, joint, angle, pose, angles, flags),
+        counts,
+    )
 }
 
 // The pose of six angles. A list of another length than 39, 6 or 12 is refused, and the pose's list

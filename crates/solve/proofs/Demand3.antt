@@ -19,7 +19,7 @@ use Rattle.family6.specs.TwoParallel.{answer-of, two-parallel, evaluations}
 use Rattle.refusals.specs.Judge.{judge}
 use Rattle.limits.specs.Limits.{allowed, refusal-10}
 use Rattle.limits.proofs.Filter.{the-allowed}
-use Rattle.full_list.specs.Full.{Full, tolerance, by-family}
+use Rattle.full_list.specs.Full.{Full, tolerance, by-family, of-numbers}
 use Rattle.solve.specs.Solve.{refused, full, answers, solve}
 use Rattle.solve.specs.Demand3.{err, definition, answered, of-pairs, Finite, SolveDemand3}
 
@@ -33,6 +33,10 @@ module _ (n : ℕ) (arm pose : List Float) (f : Finite n arm pose) (limits : Lis
   unfolding refused
   accepted = rw (eq-eqb (refusal-10 limits) 0 l) judged
 
+  pub unrefused : full 6 n arm pose limits ≡ of-numbers 6 n arm pose
+  unfolding full
+  unrefused = rw (eq-eqb (refused 6 n arm pose limits) 0 accepted)
+
   abbrev searched : Out
   searched = two-parallel-search (from-numbers arm) (pose-rotation pose) (pose-place pose) n
 
@@ -40,8 +44,8 @@ module _ (n : ℕ) (arm pose : List Float) (f : Finite n arm pose) (limits : Lis
   same = sym (within (err n arm pose) n (f .most))
 
   family-6 : full 6 n arm pose limits ≡ (record { answers = two-parallel (pose-rotation pose) (pose-place pose) (from-numbers arm) tolerance n; evals = evaluations (pose-rotation pose) (pose-place pose) (from-numbers arm) n })
-  unfolding full by-family
-  family-6 = rw (eq-eqb (refused 6 n arm pose limits) 0 accepted)
+  unfolding by-family
+  family-6 = unrefused
 
   all-answers : full 6 n arm pose limits .answers ≡ of-pairs n arm pose
   unfolding two-parallel

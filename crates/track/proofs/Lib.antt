@@ -1,3 +1,4 @@
 pub mod SevenRows
 pub mod Accepted
 pub mod Numbers
+pub mod TrackDemand3
