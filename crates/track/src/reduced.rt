@@ -101,6 +101,8 @@ pub(crate) fn handed_on(arm: &[f64], joint: usize, angle: f64, pose: &[f64]) -> 
     ensures { λ r. ⌜ r ≡ handed-on (now (arm .entry)) joint angle (now (pose .entry)) ⌝ }
 {
     let r_n = partial::locked_rotation(arm, angle, joint);
-    let r = linear::product(kinematics::pose_rotation(pose), linear::transpose(r_n));
+    let wanted = kinematics::pose_rotation(pose);
+    let back = linear::transpose(r_n);
+    let r = linear::product(wanted, back);
     pose_numbers(r, kinematics::pose_place(pose))
 }
