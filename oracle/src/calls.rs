@@ -6,7 +6,8 @@ use crate::{
     arith::Arith,
     block::{self, canonical_bits, BLOCK_BYTES},
     limits,
-    solve::{solve, Outcome},
+    solve::{solve, solve_one, Outcome},
+    track::{solve_track, Lock},
 };
 use std::fmt;
 use std::io::{self, BufRead, Write};
@@ -18,11 +19,14 @@ A call is a line: its name and its arguments, one space between words.
   solve FAMILY N ARM POSE LIMITS ANGLES FLAGS
   solve_block BLOCK LIMITS ANGLES FLAGS
   limits_block BLOCK
+  solve_track FAMILY N ARM JOINT ANGLE POSE ANGLES FLAGS
+  solve_one FAMILY N ARM POSE LIMITS
 
-FAMILY, N, ANGLES and FLAGS are whole numbers in decimal; ANGLES and FLAGS are the numbers of elements
-of the two lists that are lent. ARM, POSE and LIMITS are lists of numbers: the 16 hexadecimal digits of
-each f64, with a comma between two, and '-' for an empty list. BLOCK is a list of bytes: two digits each,
-nothing between, and '-' for none. Every list may have any length.
+FAMILY, N, JOINT, ANGLES and FLAGS are whole numbers in decimal; ANGLES and FLAGS are the numbers of
+elements of the two lists that are lent. ARM, POSE and LIMITS are lists of numbers: the 16 hexadecimal
+digits of each f64, with a comma between two, and '-' for an empty list. ANGLE is one number, the digits
+alone. BLOCK is a list of bytes: two digits each, nothing between, and '-' for none. Every list may have
+any length.
 
 Before the call element i of a list of f64 that is lent to be written has the bits a5a5a5a500000000 + i,
 and element i of a list of bytes is 128 + i modulo 128. After it a line is printed:
@@ -30,6 +34,10 @@ and element i of a list of bytes is 128 + i modulo 128. After it a line is print
   call PLACE solve refusal R answers A evals E angles LIST flags LIST
   call PLACE solve_block refusal R answers A evals E angles LIST flags LIST
   call PLACE limits_block refusal R limits LIST
+  call PLACE solve_track refusal R answers A evals E angles LIST flags LIST
+  call PLACE solve_one refusal R angles LIST flag F
+
+The six angles and the flag of solve_one are written with every refusal too.
 
 PLACE counts the calls from 0. A LIST has every element: *K stands for K in a row that are as they were
 before; the others are written as numbers in a call are, a flag in decimal, and every NaN as
@@ -54,6 +62,21 @@ pub enum Call {
     },
     LimitsBlock {
         block: Vec<u8>,
+    },
+    SolveTrack {
+        family: u64,
+        n: u64,
+        arm: Vec<f64>,
+        lock: Lock,
+        pose: Vec<f64>,
+        room: Room,
+    },
+    SolveOne {
+        family: u64,
+        n: u64,
+        arm: Vec<f64>,
+        pose: Vec<f64>,
+        limits: Vec<f64>,
     },
 }
 
@@ -93,6 +116,8 @@ impl Call {
             Call::Solve { .. } => "solve",
             Call::SolveBlock { .. } => "solve_block",
             Call::LimitsBlock { .. } => "limits_block",
+            Call::SolveTrack { .. } => "solve_track",
+            Call::SolveOne { .. } => "solve_one",
         }
     }
 
@@ -116,7 +141,27 @@ impl Call {
             ["limits_block", block] => Ok(Call::LimitsBlock {
                 block: bytes(block)?,
             }),
-            [name @ ("solve" | "solve_block" | "limits_block"), ..] => {
+            ["solve_track", family, n, arm, joint, angle, pose, angles, flags] => {
+                Ok(Call::SolveTrack {
+                    family: whole(family)?,
+                    n: whole(n)?,
+                    arm: numbers(arm)?,
+                    lock: Lock {
+                        joint: whole(joint)?,
+                        angle: number(angle)?,
+                    },
+                    pose: numbers(pose)?,
+                    room: room(angles, flags)?,
+                })
+            }
+            ["solve_one", family, n, arm, pose, limits] => Ok(Call::SolveOne {
+                family: whole(family)?,
+                n: whole(n)?,
+                arm: numbers(arm)?,
+                pose: numbers(pose)?,
+                limits: numbers(limits)?,
+            }),
+            [name @ ("solve" | "solve_block" | "limits_block" | "solve_track" | "solve_one"), ..] => {
                 Err(format!("{} words are not those of {name}", words.len()))
             }
             _ => Err(format!("no call '{}'", words[0])),
@@ -164,6 +209,33 @@ impl Call {
                 let list = shown_numbers(&list);
                 format!("{} refusal {refusal} limits {list}", self.name())
             }
+            Call::SolveTrack {
+                family,
+                n,
+                arm,
+                lock,
+                pose,
+                room,
+            } => {
+                let mut lent = Lent::new(*room);
+                let (angles, flags) = (&mut lent.angles, &mut lent.flags);
+                let outcome = solve_track::<A>(*family, *n, arm, *lock, pose, angles, flags);
+                self.solved(&outcome, &lent)
+            }
+            Call::SolveOne {
+                family,
+                n,
+                arm,
+                pose,
+                limits,
+            } => {
+                let one = solve_one::<A>(*family, *n, arm, pose, limits);
+                let (refusal, flag) = (one.refusal, one.flag);
+                let six: Vec<f64> = one.angles.iter().collect();
+                let angles = shown_numbers(&six);
+                let name = self.name();
+                format!("{name} refusal {refusal} angles {angles} flag {flag}")
+            }
         }
     }
 
@@ -210,6 +282,28 @@ impl fmt::Display for Call {
                 write!(f, "{name} {block} {limits} {room}")
             }
             Call::LimitsBlock { block } => write!(f, "{name} {}", written_bytes(block)),
+            Call::SolveTrack {
+                family,
+                n,
+                arm,
+                lock,
+                pose,
+                room,
+            } => {
+                let (joint, angle) = (lock.joint, written_number(lock.angle));
+                let [arm, pose] = [arm, pose].map(|list| written_numbers(list));
+                write!(f, "{name} {family} {n} {arm} {joint} {angle} {pose} {room}")
+            }
+            Call::SolveOne {
+                family,
+                n,
+                arm,
+                pose,
+                limits,
+            } => {
+                let lists = [arm, pose, limits].map(|list| written_numbers(list));
+                write!(f, "{name} {family} {n} {}", lists.join(" "))
+            }
         }
     }
 }
@@ -222,11 +316,12 @@ impl fmt::Display for Room {
 
 const EMPTY: &str = "-";
 
+fn written_number(x: f64) -> String {
+    format!("{:016x}", x.to_bits())
+}
+
 fn written_numbers(list: &[f64]) -> String {
-    let words: Vec<String> = list
-        .iter()
-        .map(|x| format!("{:016x}", x.to_bits()))
-        .collect();
+    let words: Vec<String> = list.iter().map(|&x| written_number(x)).collect();
     or_empty(words.join(","))
 }
 
@@ -290,8 +385,11 @@ fn numbers(word: &str) -> Result<Vec<f64>, String> {
     if word == EMPTY {
         return Ok(Vec::new());
     }
-    let bits = word.split(',').map(|digits| hexadecimal(digits, 16));
-    bits.map(|bits| bits.map(f64::from_bits)).collect()
+    word.split(',').map(number).collect()
+}
+
+fn number(digits: &str) -> Result<f64, String> {
+    hexadecimal(digits, 16).map(f64::from_bits)
 }
 
 fn bytes(word: &str) -> Result<Vec<u8>, String> {
@@ -332,6 +430,12 @@ pub fn run_lines<A: Arith>(input: &mut impl BufRead, output: &mut impl Write) ->
     Ok(())
 }
 
+/// The refusal that a result has.
+#[cfg(test)]
+pub fn refusal_of(result: &str) -> u64 {
+    result.split(' ').nth(2).unwrap().parse().unwrap()
+}
+
 #[cfg(test)]
 mod tests {
     use super::*;
@@ -339,6 +443,7 @@ mod tests {
         arith::Rules,
         generate::{sample, Kind, Sample},
         solve::full_list,
+        tracks::{reachable, Track},
     };
 
     fn run(line: &str) -> String {
@@ -376,12 +481,46 @@ mod tests {
         .to_vec()
     }
 
+    fn some_track() -> Track {
+        reachable(3, 9, 7)
+    }
+
+    fn track_call(angle: f64, angles: usize, flags: usize) -> Call {
+        let t = some_track();
+        Call::SolveTrack {
+            family: t.family,
+            n: t.n,
+            arm: t.arm.to_vec(),
+            lock: Lock {
+                joint: t.joint as u64,
+                angle,
+            },
+            pose: t.pose.to_vec(),
+            room: Room { angles, flags },
+        }
+    }
+
+    fn one_call(limits: &[f64]) -> Call {
+        let s = some_pose();
+        Call::SolveOne {
+            family: 1,
+            n: 0,
+            arm: s.arm.to_vec(),
+            pose: s.pose.to_vec(),
+            limits: limits.to_vec(),
+        }
+    }
+
     #[test]
     fn a_call_as_a_line_is_read_back() {
         let mut odd = WIDE;
         odd[3] = -f64::NAN;
         odd[4] = -0.0;
         let calls = [
+            track_call(-0.0, 56, 8),
+            track_call(-f64::NAN, 0, 0),
+            one_call(&[]),
+            one_call(&odd),
             solve_call(&[], 0, 0),
             solve_call(&odd, 48, 8),
             Call::SolveBlock {
@@ -427,6 +566,24 @@ mod tests {
             ("limits_block +1", "'+1' is not 2"),
             ("limits_block ", "an empty list of bytes is '-'"),
             ("solve_block - - 0", "4 words"),
+            (
+                "solve_track 1 0 - 0 - 0 0",
+                "8 words are not those of solve_track",
+            ),
+            (
+                "solve_track 1 0 - -1 0000000000000000 - 0 0",
+                "'-1' is not a whole",
+            ),
+            (
+                "solve_track 1 0 - 0 - - 0 0",
+                "'-' is not 16 hexadecimal digits",
+            ),
+            ("solve_track 1 0 - 0 0 - 0 0", "'0' is not 16"),
+            (
+                "solve_one 1 0 - - - 0 0",
+                "8 words are not those of solve_one",
+            ),
+            ("solve_one 1 0 - -", "5 words"),
         ] {
             let wrong = Call::parse(line).unwrap_err();
             assert!(wrong.contains(part), "{line}: {wrong}");
@@ -622,5 +779,64 @@ mod tests {
                 format!("limits_block refusal {refusal} limits *12")
             );
         }
+    }
+
+    /// The answers of a track in lists of 15 and 3 elements; then what is refused, and its zeros.
+    #[test]
+    fn a_track_result_has_sevens() {
+        let t = some_track();
+        let call = track_call(t.angle, 15, 3);
+        let result = call.run::<Rules>();
+        let words: Vec<&str> = result.split(' ').collect();
+        assert_eq!(words[..4], ["solve_track", "refusal", "9", "answers"]);
+        assert_eq!(words[5..8], ["evals", "0", "angles"]);
+        let angles: Vec<&str> = words[8].split(',').collect();
+        assert_eq!((angles.len(), angles[14]), (15, "*1"));
+        for seven in angles[..14].chunks(7) {
+            assert_eq!(seven[t.joint], written_number(t.angle));
+        }
+        assert!(words[10].ends_with(",*1") && words[10].len() == 6);
+        assert_eq!(
+            track_call(f64::NAN, 7, 1).run::<Rules>(),
+            "solve_track refusal 11 answers 0 evals 0 angles *7 flags *1"
+        );
+        let line = call.to_string();
+        let Call::SolveTrack { arm, .. } = &call else {
+            panic!("a track");
+        };
+        let all = written_numbers(arm);
+        let short = line.replacen(&all, &all[17..], 1);
+        let none = "answers 0 evals 0 angles *15 flags *3";
+        assert_eq!(run(&short), format!("solve_track refusal 5 {none}"));
+    }
+
+    #[test]
+    fn one_result_has_six_angles_and_a_flag_always() {
+        let s = some_pose();
+        let full = full_list::<Rules>(1, 0, &s.arm, &s.pose).ok().unwrap();
+        let given = |i: usize| {
+            let six: Vec<f64> = full.angles[i].iter().collect();
+            let (six, flag) = (written_numbers(&six), full.flags[i] as u8);
+            format!("solve_one refusal 0 angles {six} flag {flag}")
+        };
+        assert_eq!(one_call(&[]).run::<Rules>(), given(0));
+        assert_eq!(one_call(&WIDE).run::<Rules>(), given(0));
+        let last = full.angles.len() - 1;
+        let mut limits = WIDE;
+        for joint in 0..6 {
+            limits[2 * joint..2 * joint + 2].fill(full.angles[last][joint]);
+        }
+        assert_eq!(one_call(&limits).run::<Rules>(), given(last));
+        let zeros = written_numbers(&[0.0; 6]);
+        (limits[0], limits[1]) = (8.0, 9.0);
+        for (limits, refusal) in [(&limits[..], 12), (&limits[1..], 10)] {
+            let refused = format!("solve_one refusal {refusal} angles {zeros} flag 0");
+            assert_eq!(one_call(limits).run::<Rules>(), refused);
+        }
+        let line = "solve_one 6 401 - - -";
+        assert_eq!(
+            run(line),
+            format!("solve_one refusal 5 angles {zeros} flag 0")
+        );
     }
 }
