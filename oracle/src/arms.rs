@@ -78,6 +78,30 @@ const LARGE_REVERSED: Design = Design {
     ],
 };
 
+/// A lightweight arm of seven axes, in metres. Locking its third joint leaves an arm of family 2, close to
+/// the two that follow.
+pub fn light_whole() -> [f64; 45] {
+    let along = |z: f64| [0.0, 0.0, z];
+    let columns: [V; 15] = [
+        Z,
+        Y,
+        Z,
+        minus(Y),
+        Z,
+        Y,
+        Z,
+        along(0.36),
+        O,
+        along(0.21),
+        along(0.21),
+        along(0.4),
+        O,
+        O,
+        along(0.126),
+    ];
+    std::array::from_fn(|i| columns[i / 3][i % 3])
+}
+
 /// A lightweight arm with its third joint locked, so that axes 1 and 2 meet.
 const LIGHT: Design = Design {
     name: "light",

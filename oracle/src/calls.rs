@@ -6,7 +6,8 @@ use crate::{
     arith::Arith,
     block::{self, canonical_bits, BLOCK_BYTES},
     limits,
-    solve::{solve, Outcome},
+    solve::{solve, solve_one, Outcome},
+    track::{solve_track, Lock},
 };
 use std::fmt;
 use std::io::{self, BufRead, Write};
@@ -18,11 +19,14 @@ A call is a line: its name and its arguments, one space between words.
   solve FAMILY N ARM POSE LIMITS ANGLES FLAGS
   solve_block BLOCK LIMITS ANGLES FLAGS
   limits_block BLOCK
+  solve_track FAMILY N ARM JOINT ANGLE POSE ANGLES FLAGS
+  solve_one FAMILY N ARM POSE LIMITS
 
-FAMILY, N, ANGLES and FLAGS are whole numbers in decimal; ANGLES and FLAGS are the numbers of elements
-of the two lists that are lent. ARM, POSE and LIMITS are lists of numbers: the 16 hexadecimal digits of
-each f64, with a comma between two, and '-' for an empty list. BLOCK is a list of bytes: two digits each,
-nothing between, and '-' for none. Every list may have any length.
+FAMILY, N, JOINT, ANGLES and FLAGS are whole numbers in decimal; ANGLES and FLAGS are the numbers of
+elements of the two lists that are lent. ARM, POSE and LIMITS are lists of numbers: the 16 hexadecimal
+digits of each f64, with a comma between two, and '-' for an empty list. ANGLE is one number, the digits
+alone. BLOCK is a list of bytes: two digits each, nothing between, and '-' for none. Every list may have
+any length.
 
 Before the call element i of a list of f64 that is lent to be written has the bits a5a5a5a500000000 + i,
 and element i of a list of bytes is 128 + i modulo 128. After it a line is printed:
@@ -30,6 +34,10 @@ and element i of a list of bytes is 128 + i modulo 128. After it a line is print
   call PLACE solve refusal R answers A evals E angles LIST flags LIST
   call PLACE solve_block refusal R answers A evals E angles LIST flags LIST
   call PLACE limits_block refusal R limits LIST
+  call PLACE solve_track refusal R answers A evals E angles LIST flags LIST
+  call PLACE solve_one refusal R angles LIST flag F
+
+The six angles and the flag of solve_one are written with every refusal too.
 
 PLACE counts the calls from 0. A LIST has every element: *K stands for K in a row that are as they were
 before; the others are written as numbers in a call are, a flag in decimal, and every NaN as
@@ -54,6 +62,21 @@ pub enum Call {
     },
     LimitsBlock {
         block: Vec<u8>,
+    },
+    SolveTrack {
+        family: u64,
+        n: u64,
+        arm: Vec<f64>,
+        lock: Lock,
+        pose: Vec<f64>,
+        room: Room,
+    },
+    SolveOne {
+        family: u64,
+        n: u64,
+        arm: Vec<f64>,
+        pose: Vec<f64>,
+        limits: Vec<f64>,
     },
 }
 
@@ -93,6 +116,8 @@ impl Call {
             Call::Solve { .. } => "solve",
             Call::SolveBlock { .. } => "solve_block",
             Call::LimitsBlock { .. } => "limits_block",
+            Call::SolveTrack { .. } => "solve_track",
+            Call::SolveOne { .. } => "solve_one",
         }
     }
 
@@ -116,7 +141,27 @@ impl Call {
             ["limits_block", block] => Ok(Call::LimitsBlock {
                 block: bytes(block)?,
             }),
-            [name @ ("solve" | "solve_block" | "limits_block"), ..] => {
+            ["solve_track", family, n, arm, joint, angle, pose, angles, flags] => {
+                Ok(Call::SolveTrack {
+                    family: whole(family)?,
+                    n: whole(n)?,
+                    arm: numbers(arm)?,
+                    lock: Lock {
+                        joint: whole(joint)?,
+                        angle: number(angle)?,
+                    },
+                    pose: numbers(pose)?,
+                    room: room(angles, flags)?,
+                })
+            }
+            ["solve_one", family, n, arm, pose, limits] => Ok(Call::SolveOne {
+                family: whole(family)?,
+                n: whole(n)?,
+                arm: numbers(arm)?,
+                pose: numbers(pose)?,
+                limits: numbers(limits)?,
+            }),
+            [name @ ("solve" | "solve_block" | "limits_block" | "solve_track" | "solve_one"), ..] => {
                 Err(format!("{} words are not those of {name}", words.len()))
             }
             _ => Err(format!("no call '{}'", words[0])),
@@ -164,6 +209,33 @@ impl Call {
                 let list = shown_numbers(&list);
                 format!("{} refusal {refusal} limits {list}", self.name())
             }
+            Call::SolveTrack {
+                family,
+                n,
+                arm,
+                lock,
+                pose,
+                room,
+            } => {
+                let mut lent = Lent::new(*room);
+                let (angles, flags) = (&mut lent.angles, &mut lent.flags);
+                let outcome = solve_track::<A>(*family, *n, arm, *lock, pose, angles, flags);
+                self.solved(&outcome, &lent)
+            }
+            Call::SolveOne {
+                family,
+                n,
+                arm,
+                pose,
+                limits,
+            } => {
+                let one = solve_one::<A>(*family, *n, arm, pose, limits);
+                let (refusal, flag) = (one.refusal, one.flag);
+                let six: Vec<f64> = one.angles.iter().collect();
+                let angles = shown_numbers(&six);
+                let name = self.name();
+                format!("{name} refusal {refusal} angles {angles} flag {flag}")
+            }
         }
     }
 
@@ -210,6 +282,28 @@ impl fmt::Display for Call {
                 write!(f, "{name} {block} {limits} {room}")
             }
             Call::LimitsBlock { block } => write!(f, "{name} {}", written_bytes(block)),
+            Call::SolveTrack {
+                family,
+                n,
+                arm,
+                lock,
+                pose,
+                room,
+            } => {
+                let (joint, angle) = (lock.joint, written_number(lock.angle));
+                let [arm, pose] = [arm, pose].map(|list| written_numbers(list));
+                write!(f, "{name} {family} {n} {arm} {joint} {angle} {pose} {room}")
+            }
+            Call::SolveOne {
+                family,
+                n,
+                arm,
+                pose,
+                limits,
+            } => {
+                let lists = [arm, pose, limits].map(|list| written_numbers(list));
+                write!(f, "{name} {family} {n} {}", lists.join(" "))
+            }
         }
     }
 }
@@ -222,11 +316,12 @@ impl fmt::Display for Room {
 
 const EMPTY: &str = "-";
 
+fn written_number(x: f64) -> String {
+    format!("{:016x}", x.to_bits())
+}
+
 fn written_numbers(list: &[f64]) -> String {
-    let words: Vec<String> = list
-        .iter()
-        .map(|x| format!("{:016x}", x.to_bits()))
-        .collect();
+    let words: Vec<String> = list.iter().map(|&x| written_number(x)).collect();
     or_empty(words.join(","))
 }
 
@@ -290,8 +385,11 @@ fn numbers(word: &str) -> Result<Vec<f64>, String> {
     if word == EMPTY {
         return Ok(Vec::new());
     }
-    let bits = word.split(',').map(|digits| hexadecimal(digits, 16));
-    bits.map(|bits| bits.map(f64::from_bits)).collect()
+    word.split(',').map(number).collect()
+}
+
+fn number(digits: &str) -> Result<f64, String> {
+    hexadecimal(digits, 16).map(f64::from_bits)
 }
 
 fn bytes(word: &str) -> Result<Vec<u8>, String> {

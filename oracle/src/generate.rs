@@ -10,7 +10,7 @@ use crate::{
     linalg::Vector6,
     odd::{finite_odd, nudged, spoil},
     rng::Rng,
-    solve::{full_list, SPHERICAL, TWO_PARALLEL},
+    solve::{full_list, pose_numbers, SPHERICAL, TWO_PARALLEL},
 };
 use std::f64::consts::{FRAC_PI_2, PI};
 
@@ -141,11 +141,7 @@ fn reachable(family: u64, n: Option<u64>, rng: &mut Rng) -> Sample {
 /// The pose by forward_kinematics under document 01's rules.
 fn pose_of(arm: &Arm, angles: &[f64; 6]) -> [f64; 12] {
     let (r, p) = Kinematics::from_arm(arm).forward_kinematics::<Rules>(&Vector6::from(*angles));
-    let mut pose = [0.0; 12];
-    for (number, x) in pose.iter_mut().zip(r.by_rows().chain(p.iter())) {
-        *number = x;
-    }
-    pose
+    pose_numbers(&r, &p)
 }
 
 /// Well outside the arm's reach: the place from 2 to 1,000 reaches out.

@@ -14,7 +14,7 @@ use crate::{
 };
 
 /// Round poses have answers at zero and at PI.
-const POSES: [Kind; 9] = [
+pub const POSES: [Kind; 9] = [
     Kind::Reachable,
     Kind::Reachable,
     Kind::Unreachable,
@@ -41,32 +41,80 @@ pub fn call(seed: u64, place: u64) -> Call {
     }
 }
 
-/// Each fault is seldom by itself: half of the calls have none, and many of the others several.
-fn solve(s: Sample, rng: &mut Rng) -> Call {
-    let (mut family, mut n) = (s.family, s.n);
-    let (mut arm, mut pose) = (s.arm.to_vec(), s.pose.to_vec());
-    if rng.once_in(14) {
-        // What would be the family, or another, if only its lowest bits were looked at.
-        family = rng.pick(&[0, 7, 8, 255, 256, 256 + family, family << 32, u64::MAX]);
-    }
-    if rng.once_in(14) {
-        let wrong = wrong_n(s.family, rng);
-        n = rng.pick(&[wrong, wrong, n + (1 << 16), n + (1 << 32), u64::MAX]);
-    }
-    if rng.once_in(14) {
-        arm = of_length(&arm, rng.pick(&[0, 1, 38, 38, 40, 40, 45, 51, 78]));
-    }
-    if rng.once_in(14) {
-        pose = of_length(&pose, rng.pick(&[0, 1, 11, 11, 13, 13, 24, 39]));
-    }
-    for list in [&mut arm, &mut pose] {
-        if rng.once_in(14) && !list.is_empty() {
-            spoil_one(list, rng);
+/// What a call is asked, before it is lent any list.
+pub struct Asked {
+    pub family: u64,
+    pub n: u64,
+    pub arm: Vec<f64>,
+    pub pose: Vec<f64>,
+}
+
+impl Asked {
+    fn of(s: &Sample) -> Self {
+        Asked {
+            family: s.family,
+            n: s.n,
+            arm: s.arm.to_vec(),
+            pose: s.pose.to_vec(),
         }
     }
-    let answers = answers_of(family, n, &arm, &pose);
+
+    /// Each fault is seldom by itself: about half of the calls have none, and many of the others
+    /// several. The lengths are wrong ones for the arm.
+    pub fn with_faults(self, arm_lengths: &[usize], rng: &mut Rng) -> Self {
+        let Asked {
+            mut family,
+            mut n,
+            mut arm,
+            mut pose,
+        } = self;
+        let right = family;
+        if rng.once_in(14) {
+            // What would be the family, or another, if only its lowest bits were looked at.
+            family = rng.pick(&[0, 7, 8, 255, 256, 256 + family, family << 32, u64::MAX]);
+        }
+        if rng.once_in(14) {
+            let wrong = wrong_n(right, rng);
+            n = rng.pick(&[wrong, wrong, n + (1 << 16), n + (1 << 32), u64::MAX]);
+        }
+        if rng.once_in(14) {
+            arm = of_length(&arm, rng.pick(arm_lengths));
+        }
+        if rng.once_in(14) {
+            pose = of_length(&pose, rng.pick(&[0, 1, 11, 11, 13, 13, 24, 39]));
+        }
+        for list in [&mut arm, &mut pose] {
+            if rng.once_in(14) && !list.is_empty() {
+                spoil_one(list, rng);
+            }
+        }
+        Asked {
+            family,
+            n,
+            arm,
+            pose,
+        }
+    }
+
+    fn answers(&self) -> Vec<Vector6> {
+        answers_of(self.family, self.n, &self.arm, &self.pose)
+    }
+}
+
+/// Wrong lengths of an arm of 39 numbers.
+const ARM_LENGTHS: [usize; 9] = [0, 1, 38, 38, 40, 40, 45, 51, 78];
+
+fn solve(s: Sample, rng: &mut Rng) -> Call {
+    let asked = Asked::of(&s).with_faults(&ARM_LENGTHS, rng);
+    let answers = asked.answers();
     let limits = lent_limits(&answers, rng);
-    let room = room_for(staying(&answers, &limits), rng);
+    let room = room_for(staying(&answers, &limits), 6, rng);
+    let Asked {
+        family,
+        n,
+        arm,
+        pose,
+    } = asked;
     Call::Solve {
         family,
         n,
@@ -74,6 +122,31 @@ fn solve(s: Sample, rng: &mut Rng) -> Call {
         pose,
         limits,
         room,
+    }
+}
+
+/// n for one answer in family 6: now and then as large as in use, for the first of a long list.
+const ONE_COUNTS: [u64; 12] = [1, 1, 2, 2, 3, 5, 7, 12, 25, 25, 60, 200];
+
+/// The call for one answer at a place of a generated list.
+pub fn one_call(seed: u64, place: u64) -> Call {
+    let rng = &mut Rng::of(&[seed, 8, place]);
+    let (kind, n) = (rng.pick(&POSES), rng.pick(&ONE_COUNTS));
+    let s = sample(kind, 1 + place % 6, seed, place, Some(n));
+    let asked = Asked::of(&s).with_faults(&ARM_LENGTHS, rng);
+    let limits = lent_limits(&asked.answers(), rng);
+    let Asked {
+        family,
+        n,
+        arm,
+        pose,
+    } = asked;
+    Call::SolveOne {
+        family,
+        n,
+        arm,
+        pose,
+        limits,
     }
 }
 
@@ -87,7 +160,7 @@ fn solve_block(s: &Sample, rng: &mut Rng) -> Call {
     };
     let block = cut_or_longer(block, rng);
     let limits = lent_limits(&answers, rng);
-    let room = room_for(staying(&answers, &limits), rng);
+    let room = room_for(staying(&answers, &limits), 6, rng);
     Call::SolveBlock {
         block,
         limits,
@@ -164,20 +237,20 @@ fn staying(answers: &[Vector6], limits: &[f64]) -> usize {
     }
 }
 
-/// Lists for so many answers: enough, just enough, and too short in every way.
-fn room_for(answers: usize, rng: &mut Rng) -> Room {
-    let numbers = 6 * answers;
+/// Lists for so many answers of some numbers each: enough, just enough, and too short in every way.
+pub fn room_for(answers: usize, each: usize, rng: &mut Rng) -> Room {
+    let numbers = each * answers;
     let (angles, flags) = match rng.below(12) {
         0..=3 => (
-            numbers + 6 * rng.below(3) + rng.below(6),
+            numbers + each * rng.below(3) + rng.below(each),
             answers + rng.below(4),
         ),
         4 => (numbers, answers),
-        5 => (numbers.saturating_sub(6), answers),
+        5 => (numbers.saturating_sub(each), answers),
         6 => (numbers.saturating_sub(1), answers + 1),
-        7 => (numbers + 5, answers.saturating_sub(1)),
+        7 => (numbers + each - 1, answers.saturating_sub(1)),
         8 => (0, 0),
-        9 => (rng.below(6), answers),
+        9 => (rng.below(each), answers),
         10 => (numbers, 0),
         _ => (rng.below(numbers + 8), rng.below(answers + 3)),
     };

@@ -17,6 +17,7 @@ pub type Vector3 = Matrix<3, 1>;
 pub type Vector4 = Matrix<4, 1>;
 pub type Vector5 = Matrix<5, 1>;
 pub type Vector6 = Matrix<6, 1>;
+pub type Vector7 = Matrix<7, 1>;
 pub type Matrix2 = Matrix<2, 2>;
 pub type Matrix3 = Matrix<3, 3>;
 pub type Matrix3x2 = Matrix<3, 2>;
@@ -62,6 +63,11 @@ impl<const R: usize, const C: usize> Matrix<R, C> {
         Matrix {
             columns: [self.columns[j]],
         }
+    }
+
+    #[inline]
+    pub fn set_column(&mut self, j: usize, column: &Matrix<R, 1>) {
+        self.columns[j] = column.columns[0];
     }
 
     #[inline]

@@ -14,6 +14,7 @@ mod errors;
 mod functions;
 mod generate;
 mod generate_calls;
+mod generate_track;
 mod inputs;
 mod inverse;
 mod inverse_kinematics;
@@ -34,6 +35,9 @@ mod searches;
 mod solutionset;
 mod solve;
 mod subproblems;
+mod track;
+mod track_miss;
+mod tracks;
 
 use arith::{Arith, Machine, Nalgebra, Rules};
 use block::canonical_bits;
@@ -60,6 +64,8 @@ usage: oracle COMMAND
   calls                                  run the library's calls, one on each line
   calls --list                           how these lines and those of the results are written
   generate-calls SEED COUNT              such lines: good calls, and calls with every fault
+  generate-track SEED COUNT              the same for the call of an arm on a track
+  generate-one SEED COUNT                the same for the call that gives one answer
   generate KIND FAMILY SEED COUNT [N]    blocks; KIND is reachable, unreachable, bent, random,
                                          hostile, headers, degenerate or round; --limits puts
                                          limits blocks among them
@@ -69,6 +75,8 @@ usage: oracle COMMAND
                                          --arms adds a line for each arm, --tilt for each range
                                          of the angle between axes 2 and 5, --distance for how
                                          near the nearest answer is
+  track-miss SEED COUNT [N]              how far an arm on a track misses the wanted pose at its
+                                         answers, over COUNT poses of all families (n = 200)
   lacking KIND FAMILY SEED COUNT [N]     how many lists lack an answer that a descent from random
                                          angles finds (n = 200 in family 6)
   missed KIND SEED COUNT [N]             family 6: the poses that have not, each with the reason
@@ -183,9 +191,14 @@ fn command<A: Arith>(line: &CommandLine, output: &mut impl Write) -> Result<(), 
         }
         ["call"] if line.list => told(list_functions(output)),
         ["generate-calls", seed, count] => {
-            let (seed, count) = (number(seed)?, number(count)?);
-            let mut calls = (0..count).map(|place| generate_calls::call(seed, place));
-            told(calls.try_for_each(|call| writeln!(output, "{call}")))
+            write_calls(output, generate_calls::call, number(seed)?, number(count)?)
+        }
+        ["generate-track", seed, count] => {
+            write_calls(output, generate_track::call, number(seed)?, number(count)?)
+        }
+        ["generate-one", seed, count] => {
+            let call = generate_calls::one_call;
+            write_calls(output, call, number(seed)?, number(count)?)
         }
         ["calls"] if line.list => told(output.write_all(calls::FORMAT.as_bytes())),
         ["calls"] => told(calls::run_lines::<A>(&mut io::stdin().lock(), output)),
@@ -200,6 +213,12 @@ fn command<A: Arith>(line: &CommandLine, output: &mut impl Write) -> Result<(), 
         ["angles", kind, family, seed, count, ref n @ ..] => {
             let request = Generated::parse(kind, family, seed, count, n)?;
             request.write_angles(output)
+        }
+        ["track-miss", seed, count, ref n @ ..] => {
+            let (seed, count) = (number(seed)?, number(count)?);
+            let n = optional_n(n)?.unwrap_or(200);
+            let counts = track_miss::track_miss::<A>(seed, count, n);
+            told(write_track_miss(output, &counts))
         }
         ["recover", kind @ ("reachable" | "degenerate" | "round"), family, seed, count, ref n @ ..] =>
         {
@@ -272,6 +291,16 @@ fn told(result: io::Result<()>) -> Result<(), Failure> {
         Err(error) if error.kind() == io::ErrorKind::BrokenPipe => Ok(()),
         other => other.map_err(|error| error.to_string()),
     }
+}
+
+fn write_calls(
+    output: &mut impl Write,
+    call: fn(u64, u64) -> calls::Call,
+    seed: u64,
+    count: u64,
+) -> Result<(), Failure> {
+    let mut calls = (0..count).map(|place| call(seed, place));
+    told(calls.try_for_each(|call| writeln!(output, "{call}")))
 }
 
 fn number(text: &str) -> Result<u64, Failure> {
@@ -468,6 +497,30 @@ fn write_counts(output: &mut impl Write, name: &str, r: &recover::Recovered) -> 
         r.untrue,
         r.flagged_true
     )
+}
+
+fn write_track_miss(output: &mut impl Write, families: &[track_miss::Counts; 6]) -> io::Result<()> {
+    for (c, family) in families.iter().zip(1..) {
+        writeln!(
+            output,
+            "family {family} poses {} answers {} flagged {} untrue {}",
+            c.poses, c.answers, c.flagged, c.untrue
+        )?;
+        for (name, classes) in [("regular", c.regular), ("singular", c.singular)] {
+            for (axes, class) in ["seven", "six"].into_iter().zip(classes) {
+                writeln!(
+                    output,
+                    "  {name} {axes}-axes answers {} place {:e} at {} rotation {:e} at {}",
+                    class.answers,
+                    class.place.difference,
+                    class.place.place,
+                    class.rotation.difference,
+                    class.rotation.place
+                )?;
+            }
+        }
+    }
+    Ok(())
 }
 
 fn write_comparison(output: &mut impl Write, found: &beside::Beside) -> io::Result<()> {

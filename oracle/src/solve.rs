@@ -1,5 +1,5 @@
 //! Document 01's solve call with document 02's limits: refusals 4 to 10, the families, n, and the two
-//! lent lists.
+//! lent lists. Beside it document 02's call that gives one answer, with refusal 12.
 
 use crate::{
     arith::Arith,
@@ -41,11 +41,15 @@ pub struct Answers {
 }
 
 impl Answers {
+    /// Each answer with its flag, in their order.
+    pub fn iter(&self) -> impl Iterator<Item = (Vector6, bool)> + '_ {
+        let flags = self.flags.iter().copied();
+        self.angles.iter().copied().zip(flags)
+    }
+
     /// The answers inside the limits, in their order; without limits all.
-    fn within(&self, limits: Option<Limits>) -> Vec<(&Vector6, bool)> {
-        self.angles
-            .iter()
-            .zip(self.flags.iter().copied())
+    fn within(&self, limits: Option<Limits>) -> Vec<(Vector6, bool)> {
+        self.iter()
             .filter(|(angles, _)| limits.is_none_or(|limits| limits.admit(angles)))
             .collect()
     }
@@ -57,6 +61,15 @@ pub fn pose_parts(pose: &[f64; 12]) -> (Matrix3, Vector3) {
         Matrix::from_entries(|i, j| pose[3 * i + j]),
         Vector3::new(pose[9], pose[10], pose[11]),
     )
+}
+
+/// The numbers of a pose, of which [`pose_parts`] makes the two.
+pub fn pose_numbers(r: &Matrix3, p: &Vector3) -> [f64; 12] {
+    let mut pose = [0.0; 12];
+    for (number, x) in pose.iter_mut().zip(r.by_rows().chain(p.iter())) {
+        *number = x;
+    }
+    pose
 }
 
 /// The full list of a family from 1 to 6, without any refusal.
@@ -96,38 +109,77 @@ fn n_fits(family: u64, n: u64) -> bool {
     }
 }
 
-/// Refusals 4 to 8 in their order, or the arm and the pose as arrays.
-fn judge<'a>(
+/// Refusals 4, 5 and 6 in their order, or the arm, which is so many numbers, and the pose as arrays.
+pub fn judge_lengths<'a, const NUMBERS: usize>(
     family: u64,
-    n: u64,
     arm: &'a [f64],
     pose: &'a [f64],
-) -> Result<(&'a [f64; 39], &'a [f64; 12]), u32> {
+) -> Result<(&'a [f64; NUMBERS], &'a [f64; 12]), u32> {
     if !FAMILIES.contains(&family) {
         return Err(4);
     }
-    let arm: &[f64; 39] = arm.try_into().map_err(|_| 5u32)?;
-    let pose: &[f64; 12] = pose.try_into().map_err(|_| 6u32)?;
+    let arm = arm.try_into().map_err(|_| 5u32)?;
+    let pose = pose.try_into().map_err(|_| 6u32)?;
+    Ok((arm, pose))
+}
+
+/// Refusals 7 and 8 in their order.
+pub fn judge_numbers(family: u64, n: u64, arm: &[f64], pose: &[f64]) -> Result<(), u32> {
     if !n_fits(family, n) {
         return Err(7);
     }
     if arm.iter().chain(pose).any(|x| !x.is_finite()) {
         return Err(8);
     }
-    Ok((arm, pose))
+    Ok(())
 }
 
 /// The full list before any limits, or one of the refusals 4 to 8.
 pub fn full_list<A: Arith>(family: u64, n: u64, arm: &[f64], pose: &[f64]) -> Result<Answers, u32> {
-    let (arm, pose) = judge(family, n, arm, pose)?;
+    let (arm, pose) = judge_lengths(family, arm, pose)?;
+    judge_numbers(family, n, arm, pose)?;
     let kin = Kinematics::from_arm(arm);
     Ok(family_answers::<A>(family, n as usize, &kin, pose))
 }
 
-/// The solve call. `limits` is twelve numbers or none; refusal 10 comes before 4. Answers outside
-/// the limits leave the list, and what is left is counted, written and held against refusal 9; the
-/// evaluations are those of the full list. Refusals but 9 write nothing; refusal 9 writes the first
-/// answers that fit both lists; elements past the last written answer keep their values.
+/// The list within the limits and the evaluations of the full one; or refusal 10, which comes before
+/// 4, or one of 4 to 8. `limits` is twelve numbers or none.
+fn filtered_list<A: Arith>(
+    family: u64,
+    n: u64,
+    arm: &[f64],
+    pose: &[f64],
+    limits: &[f64],
+) -> Result<(Vec<(Vector6, bool)>, u64), u32> {
+    let limits = Limits::judge(limits)?;
+    let full = full_list::<A>(family, n, arm, pose)?;
+    Ok((full.within(limits), full.evaluations))
+}
+
+/// Writes the first answers that fit both lists, so many numbers each; elements past the last written
+/// answer keep their values. Refusal 9 is for a list of more answers.
+pub fn write_answers<const ANGLES: usize>(
+    list: &[(Matrix<ANGLES, 1>, bool)],
+    evaluations: u64,
+    angle_list: &mut [f64],
+    flag_list: &mut [u8],
+) -> Outcome {
+    let room = (angle_list.len() / ANGLES).min(flag_list.len());
+    for (i, (angles, flag)) in list.iter().take(room).enumerate() {
+        for (j, angle) in angles.iter().enumerate() {
+            angle_list[ANGLES * i + j] = angle;
+        }
+        flag_list[i] = *flag as u8;
+    }
+    Outcome {
+        refusal: if list.len() > room { 9 } else { 0 },
+        answers: list.len(),
+        evaluations,
+    }
+}
+
+/// The solve call. Answers outside the limits leave the list, and what is left is counted, written and
+/// held against refusal 9; the evaluations are those of the full list. Refusals but 9 write nothing.
 pub fn solve<A: Arith>(
     family: u64,
     n: u64,
@@ -137,26 +189,41 @@ pub fn solve<A: Arith>(
     angle_list: &mut [f64],
     flag_list: &mut [u8],
 ) -> Outcome {
-    let judged = Limits::judge(limits)
-        .and_then(|limits| Ok((limits, full_list::<A>(family, n, arm, pose)?)));
-    let (limits, full) = match judged {
-        Ok(parts) => parts,
-        Err(refusal) => return Outcome::refused(refusal),
-    };
-    let list = full.within(limits);
-    let room = (angle_list.len() / 6).min(flag_list.len());
-
-    for (i, (angles, flag)) in list.iter().take(room).enumerate() {
-        for (j, angle) in angles.iter().enumerate() {
-            angle_list[6 * i + j] = angle;
-        }
-        flag_list[i] = *flag as u8;
+    match filtered_list::<A>(family, n, arm, pose, limits) {
+        Ok((list, evaluations)) => write_answers(&list, evaluations, angle_list, flag_list),
+        Err(refusal) => Outcome::refused(refusal),
     }
+}
 
-    Outcome {
-        refusal: if list.len() > room { 9 } else { 0 },
-        answers: list.len(),
-        evaluations: full.evaluations,
+/// What the call for one answer gives; a refusal has six times +0.0 and flag 0 beside it.
+#[derive(Debug, Clone, Copy)]
+pub struct OneAnswer {
+    pub refusal: u32,
+    pub angles: Vector6,
+    pub flag: u8,
+}
+
+/// The call for one answer: the first of the list within the limits. Refusal 12 is for an empty one.
+pub fn solve_one<A: Arith>(
+    family: u64,
+    n: u64,
+    arm: &[f64],
+    pose: &[f64],
+    limits: &[f64],
+) -> OneAnswer {
+    let first = filtered_list::<A>(family, n, arm, pose, limits)
+        .and_then(|(list, _)| list.first().copied().ok_or(12));
+    match first {
+        Ok((angles, flag)) => OneAnswer {
+            refusal: 0,
+            angles,
+            flag: flag as u8,
+        },
+        Err(refusal) => OneAnswer {
+            refusal,
+            angles: Vector6::zeros(),
+            flag: 0,
+        },
     }
 }
 
@@ -352,5 +419,99 @@ mod tests {
         assert!(free.answers > 0 && free.evaluations > 200);
         assert_eq!((empty.refusal, empty.answers), (0, 0));
         assert_eq!(empty.evaluations, free.evaluations);
+    }
+
+    fn one(family: u64, n: u64, arm: &[f64], pose: &[f64], limits: &[f64]) -> OneAnswer {
+        solve_one::<Rules>(family, n, arm, pose, limits)
+    }
+
+    /// The refusal, where it has six times +0.0 and flag 0 beside it.
+    fn refusal_alone(one: &OneAnswer) -> u32 {
+        assert!(one.refusal != 0 && same(&one.angles, &[0.0; 6]) && one.flag == 0);
+        one.refusal
+    }
+
+    #[test]
+    fn one_answer_is_refused_in_the_same_order() {
+        let (arm, pose) = ([0.0; 39], [0.0; 12]);
+        let mut far = pose;
+        far[11] = f64::NAN;
+        let refusal = |family, n, arm: &[f64], pose: &[f64], limits: &[f64]| {
+            refusal_alone(&one(family, n, arm, pose, limits))
+        };
+        assert_eq!(refusal(9, 1, &arm[1..], &far[1..], &WIDE[1..]), 10);
+        for limits in [&WIDE[..], &[]] {
+            assert_eq!(refusal(9, 1, &arm[1..], &far[1..], limits), 4);
+            assert_eq!(refusal(3, 1, &arm[1..], &far[1..], limits), 5);
+            assert_eq!(refusal(3, 1, &arm, &far[1..], limits), 6);
+            assert_eq!(refusal(3, 1, &arm, &far, limits), 7);
+            assert_eq!(refusal(3, 0, &arm, &far, limits), 8);
+            // Zeros are accepted and have no answer.
+            assert_eq!(refusal(3, 0, &arm, &pose, limits), 12);
+            assert_eq!(refusal(6, 200, &arm, &pose, limits), 12);
+        }
+    }
+
+    /// Limits that leave answer k and all behind it in q1's order give the first of these in the list's
+    /// order, which is the first that the solve call writes; limits that leave none give 12.
+    #[test]
+    fn one_answer_is_the_first_of_the_filtered_list() {
+        let (mut later, mut flagged) = (0, 0);
+        for place in 0..60 {
+            let family = 1 + place % 6;
+            let s = sample(Kind::Reachable, family, 22, place, Some(7));
+            let full = full_list::<Rules>(family, s.n, &s.arm, &s.pose)
+                .ok()
+                .unwrap();
+            let free = one(family, s.n, &s.arm, &s.pose, &[]);
+            assert!(same(
+                &full.angles[0],
+                &free.angles.iter().collect::<Vec<_>>()
+            ));
+            for joint in 0..6 {
+                for own in &full.angles {
+                    let mut limits = WIDE;
+                    limits[2 * joint] = own[joint];
+                    let given = one(family, s.n, &s.arm, &s.pose, &limits);
+                    let first = (0..full.angles.len())
+                        .find(|&k| full.angles[k][joint] >= own[joint])
+                        .expect("its own answer stays");
+                    let six: Vec<f64> = given.angles.iter().collect();
+                    assert!(given.refusal == 0 && same(&full.angles[first], &six));
+                    assert_eq!(given.flag, full.flags[first] as u8);
+                    later += (first > 0) as usize;
+                    flagged += given.flag as usize;
+
+                    let (mut angles, mut flags) = ([7.0; 6], [7; 1]);
+                    let (angle_list, flag_list) = (&mut angles[..], &mut flags[..]);
+                    solve::<Rules>(family, s.n, &s.arm, &s.pose, &limits, angle_list, flag_list);
+                    assert!(same(&given.angles, &angles) && [given.flag] == flags);
+                }
+                let mut limits = WIDE;
+                limits[2 * joint] = 8.5;
+                let none = one(family, s.n, &s.arm, &s.pose, &limits);
+                assert_eq!(refusal_alone(&none), 12);
+            }
+        }
+        assert!(later > 300 && flagged > 300, "{later} {flagged}");
+    }
+
+    /// Without limits an answer of NaNs is a member like any other; any limits leave it out.
+    #[test]
+    fn one_answer_may_be_a_nan_without_limits_alone() {
+        let mut seen = 0;
+        for place in 0..40 {
+            let s = sample(Kind::Degenerate, 5, 2, place, None);
+            let full = full_list::<Rules>(5, 0, &s.arm, &s.pose).ok().unwrap();
+            if full.angles.is_empty() || !full.angles[0].iter().any(f64::is_nan) {
+                continue;
+            }
+            seen += 1;
+            let free = one(5, 0, &s.arm, &s.pose, &[]);
+            assert!(free.refusal == 0 && free.angles.iter().any(f64::is_nan));
+            let limited = one(5, 0, &s.arm, &s.pose, &WIDE);
+            assert!(limited.angles.iter().all(|q| !q.is_nan()));
+        }
+        assert!(seen > 0);
     }
 }

@@ -1,33 +1,47 @@
 //! Carried over from ikgeo/src/inverse_kinematics/auxiliary.rs (MIT, see NOTICE): the arm,
-//! forward_kinematics, wrap_to_pi and the bracketing search. The search also counts its
-//! evaluations and notes where each of its pairs came from; neither changes what it computes.
+//! forward_kinematics, forward_kinematics_partial, wrap_to_pi and the bracketing search. The search
+//! also counts its evaluations and notes where each of its pairs came from; neither changes what it
+//! computes.
 
 use {
     crate::{
         arith::{rem_euclid_tau, Arith},
-        linalg::{Matrix, Matrix3, Vector3, Vector6},
+        linalg::{Matrix, Matrix3, Vector3},
         subproblems::auxiliary::rot,
     },
     std::{cell::Cell, f64::consts::PI, fmt},
 };
 
-/// Six axes and seven offsets, one to a column.
+/// C1 axes and C2 = C1 + 1 offsets, one to a column: six axes where nothing else is said, seven on
+/// a track.
 #[derive(Debug, Clone)]
-pub struct Kinematics {
-    pub h: Matrix<3, 6>,
-    pub p: Matrix<3, 7>,
+pub struct Kinematics<const C1: usize = 6, const C2: usize = 7> {
+    pub h: Matrix<3, C1>,
+    pub p: Matrix<3, C2>,
 }
 
 impl Kinematics {
-    /// From an arm's 39 numbers: the axes, then the offsets, three numbers each.
+    /// From an arm's 39 numbers.
     pub fn from_arm(arm: &[f64; 39]) -> Self {
+        Self::from_numbers(arm)
+    }
+}
+
+impl<const C1: usize, const C2: usize> Kinematics<C1, C2> {
+    /// From the axes, then the offsets, three numbers each.
+    fn from_numbers(numbers: &[f64]) -> Self {
         Kinematics {
-            h: Matrix::from_entries(|i, j| arm[3 * j + i]),
-            p: Matrix::from_entries(|i, j| arm[18 + 3 * j + i]),
+            h: Matrix::from_entries(|i, j| numbers[3 * j + i]),
+            p: Matrix::from_entries(|i, j| numbers[3 * (C1 + j) + i]),
         }
     }
 
-    pub fn forward_kinematics<A: Arith>(&self, theta: &Vector6) -> (Matrix3, Vector3) {
+    /// The axes, then the offsets, three numbers each.
+    pub fn numbers(&self) -> impl Iterator<Item = f64> + '_ {
+        self.h.iter().chain(self.p.iter())
+    }
+
+    pub fn forward_kinematics<A: Arith>(&self, theta: &Matrix<C1, 1>) -> (Matrix3, Vector3) {
         let mut p: Vector3 = self.p.column(0);
         let mut r = Matrix3::identity();
 
@@ -37,6 +51,56 @@ impl Kinematics {
         }
 
         (r, p)
+    }
+}
+
+impl Kinematics<7, 8> {
+    /// From the 45 numbers of an arm on a track.
+    pub fn from_track_arm(arm: &[f64; 45]) -> Self {
+        Self::from_numbers(arm)
+    }
+
+    /// The arm of six axes that is left where joint `n`, from 0 to 6, is locked at `q_n`.
+    pub fn forward_kinematics_partial<A: Arith>(
+        &self,
+        q_n: f64,
+        n: usize,
+        r_6t: &Matrix3,
+    ) -> (Kinematics<6, 7>, Matrix3) {
+        let mut kin_new: Kinematics<6, 7> = Kinematics {
+            h: Matrix::zeros(),
+            p: Matrix::zeros(),
+        };
+        let r_n = rot::<A>(&self.h.column(n), q_n);
+
+        for i in 0..7 {
+            if i > n {
+                set_column(&mut kin_new.h, i - 1, &(r_n * self.h.column(i)));
+            } else {
+                set_column(&mut kin_new.h, i, &self.h.column(i));
+            }
+        }
+
+        for i in 0..8 {
+            if i == n {
+                let moved = self.p.column(i) + r_n * self.p.column(i + 1);
+                set_column(&mut kin_new.p, i, &moved);
+            } else if i > n + 1 {
+                set_column(&mut kin_new.p, i - 1, &(r_n * self.p.column(i)));
+            } else {
+                set_column(&mut kin_new.p, i, &self.p.column(i));
+            }
+        }
+
+        (kin_new, r_n * r_6t)
+    }
+}
+
+/// Document 02 drops a write past the last column. Only joint 6 makes one, of an axis and of an
+/// offset; the Rust panics there.
+fn set_column<const C: usize>(matrix: &mut Matrix<3, C>, j: usize, column: &Vector3) {
+    if j < C {
+        matrix.set_column(j, column);
     }
 }
 
@@ -419,10 +483,170 @@ mod tests {
     use super::*;
     use crate::{
         arith::Rules,
+        arms::random_axis,
+        block::canonical_bits,
         generate::{sample, Kind},
         inverse_kinematics::{error_given_q1, two_parallel_search},
+        linalg::{Vector6, Vector7},
+        odd::{odd, spoil},
+        rng::Rng,
         solve::pose_parts,
     };
+    use std::f64::consts::FRAC_PI_2;
+
+    /// How a column of the reduced arm comes from those of the whole one, r being the locked joint's
+    /// own rotation.
+    #[derive(Clone, Copy)]
+    enum Column {
+        /// The column as it is.
+        Same(usize),
+        /// r times the column.
+        Turned(usize),
+        /// The column and r times the next one.
+        Joined(usize),
+    }
+    use Column::{Joined as J, Same as S, Turned as T};
+
+    /// The reduced arm's axes and offsets for the joints 0 to 6.
+    const REDUCED: [([Column; 6], [Column; 7]); 7] = [
+        (
+            [T(1), T(2), T(3), T(4), T(5), T(6)],
+            [J(0), T(2), T(3), T(4), T(5), T(6), T(7)],
+        ),
+        (
+            [S(0), T(2), T(3), T(4), T(5), T(6)],
+            [S(0), J(1), T(3), T(4), T(5), T(6), T(7)],
+        ),
+        (
+            [S(0), S(1), T(3), T(4), T(5), T(6)],
+            [S(0), S(1), J(2), T(4), T(5), T(6), T(7)],
+        ),
+        (
+            [S(0), S(1), S(2), T(4), T(5), T(6)],
+            [S(0), S(1), S(2), J(3), T(5), T(6), T(7)],
+        ),
+        (
+            [S(0), S(1), S(2), S(3), T(5), T(6)],
+            [S(0), S(1), S(2), S(3), J(4), T(6), T(7)],
+        ),
+        (
+            [S(0), S(1), S(2), S(3), S(4), T(6)],
+            [S(0), S(1), S(2), S(3), S(4), J(5), T(7)],
+        ),
+        (
+            [S(0), S(1), S(2), S(3), S(4), S(5)],
+            [S(0), S(1), S(2), S(3), S(4), S(5), J(6)],
+        ),
+    ];
+
+    /// Number by number from the whole arm's 45; offsets start at column 7.
+    fn reduced_number(arm: &[f64; 45], r: &Matrix3, from: Column, first: usize, i: usize) -> f64 {
+        let v = |column: usize, i: usize| arm[3 * (first + column) + i];
+        let turned = |c: usize| r[(i, 0)] * v(c, 0) + r[(i, 1)] * v(c, 1) + r[(i, 2)] * v(c, 2);
+        match from {
+            S(c) => v(c, i),
+            T(c) => turned(c),
+            J(c) => v(c, i) + turned(c + 1),
+        }
+    }
+
+    fn bits(numbers: impl Iterator<Item = f64>) -> Vec<u64> {
+        numbers.map(canonical_bits).collect()
+    }
+
+    fn some_arm(rng: &mut Rng) -> [f64; 45] {
+        let mut arm = [0.0; 45];
+        for axis in arm[..21].chunks_mut(3) {
+            axis.copy_from_slice(&random_axis(rng));
+        }
+        arm[21..].fill_with(|| rng.between(-0.5, 0.5));
+        arm
+    }
+
+    /// Every f64 is taken, at every joint; a NaN comes where the formula has one.
+    #[test]
+    fn a_locked_joint_turns_and_joins_the_columns_behind_it() {
+        let mut not_finite = 0;
+        for place in 0..7000 {
+            let rng = &mut Rng::of(&[31, place]);
+            let (joint, mut arm) = (place as usize % 7, some_arm(rng));
+            let (mut q, mut r_6t) = (rng.between(-PI, PI), [0.0; 9]);
+            r_6t.fill_with(|| rng.between(-1.0, 1.0));
+            if rng.once_in(2) {
+                spoil(&mut arm, rng, odd);
+                spoil(&mut r_6t, rng, odd);
+                q = odd(rng);
+            }
+            let r_6t = Matrix3::from_entries(|i, j| r_6t[3 * i + j]);
+            let kin = Kinematics::from_track_arm(&arm);
+            let (reduced, turned) = kin.forward_kinematics_partial::<Rules>(q, joint, &r_6t);
+
+            let r = rot::<Rules>(&kin.h.column(joint), q);
+            let (axes, offsets) = &REDUCED[joint];
+            let mut expected = Vec::new();
+            for (columns, first) in [(&axes[..], 0), (&offsets[..], 7)] {
+                for &from in columns {
+                    expected.extend((0..3).map(|i| reduced_number(&arm, &r, from, first, i)));
+                }
+            }
+            assert_eq!(
+                bits(reduced.numbers()),
+                bits(expected.into_iter()),
+                "{place}"
+            );
+            assert_eq!(bits(turned.iter()), bits((r * r_6t).iter()), "{place}");
+            not_finite += reduced.numbers().any(|x| !x.is_finite()) as usize;
+        }
+        assert!(not_finite > 500, "{not_finite}");
+    }
+
+    /// A quarter turn about z takes (x, y, z) to (-y, x, z) exactly under the rules.
+    #[test]
+    fn a_quarter_turn_worked_by_hand() {
+        let mut arm: [f64; 45] = std::array::from_fn(|i| (i + 1) as f64);
+        let locked = |arm: &mut [f64; 45], joint: usize| {
+            arm[3 * joint..3 * joint + 3].copy_from_slice(&[0.0, 0.0, 2.0]);
+            let kin = Kinematics::from_track_arm(arm);
+            let (reduced, r_n) =
+                kin.forward_kinematics_partial::<Rules>(FRAC_PI_2, joint, &Matrix3::identity());
+            let quarter = Matrix3::new(0.0, -1.0, 0.0, 1.0, 0.0, 0.0, 0.0, 0.0, 1.0);
+            assert_eq!(r_n, quarter);
+            reduced.numbers().collect::<Vec<f64>>()
+        };
+        let reduced = locked(&mut arm, 4);
+        // h0 to h3, then h5 and h6 turned; p0 to p3, p4 and p5 joined, then p6 and p7 turned.
+        assert_eq!(reduced[..12], arm[..12]);
+        assert_eq!(reduced[12..18], [-17.0, 16.0, 18.0, -20.0, 19.0, 21.0]);
+        assert_eq!(reduced[18..30], arm[21..33]);
+        assert_eq!(reduced[30..33], [34.0 - 38.0, 35.0 + 37.0, 36.0 + 39.0]);
+        assert_eq!(reduced[33..], [-41.0, 40.0, 42.0, -44.0, 43.0, 45.0]);
+
+        // The last joint: h0 to h5, p0 to p5, and p6 and p7 joined.
+        let reduced = locked(&mut arm, 6);
+        assert_eq!(reduced[..18], arm[..18]);
+        assert_eq!(reduced[18..36], arm[21..39]);
+        assert_eq!(reduced[36..], [40.0 - 44.0, 41.0 + 43.0, 42.0 + 45.0]);
+    }
+
+    /// The reduced arm's rotation is the whole arm's times the transpose of the locked joint's own,
+    /// and its place the whole arm's.
+    #[test]
+    fn the_reduced_arm_moves_as_the_whole_one() {
+        for place in 0..700 {
+            let rng = &mut Rng::of(&[32, place]);
+            let (joint, arm) = (place as usize % 7, some_arm(rng));
+            let seven: [f64; 7] = std::array::from_fn(|_| rng.between(-PI, PI));
+            let six = std::array::from_fn(|i| seven[if i < joint { i } else { i + 1 }]);
+            let kin = Kinematics::from_track_arm(&arm);
+            let (r, p) = kin.forward_kinematics::<Rules>(&Vector7::from(seven));
+            let identity = Matrix3::identity();
+            let (reduced, r_n) =
+                kin.forward_kinematics_partial::<Rules>(seven[joint], joint, &identity);
+            let (r_six, p_six) = reduced.forward_kinematics::<Rules>(&Vector6::from(six));
+            assert!((r * r_n.transpose() - r_six).norm() < 1e-14, "{place}");
+            assert!((p - p_six).norm() < 1e-14, "{place}");
+        }
+    }
 
     fn kinds(search: &Search, component: usize) -> Vec<Origin> {
         let pairs = search.zeros.iter();
