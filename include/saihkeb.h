@@ -1,5 +1,6 @@
 /*
- * Saihkeb: joint solvers for six-axis arms, and forward kinematics.
+ * Saihkeb: joint solvers for six-axis arms, and for seven-axis ones with one joint locked; and forward
+ * kinematics.
  *
  * Link it:  tools/example_c.sh builds target/staticlib/libsaihkeb.a and links an example with it:
  *               cc -I include solve.c target/staticlib/libsaihkeb.a -lm
@@ -82,6 +83,39 @@
  *     second time, with 2 pi taken from its two limits, and add 2 pi to its angle in each answer. For a
  *     low below -PI it is the other way round.
  *
+ * SEVEN AXES
+ *   saihkeb_solve_track solves an arm of seven axes, one of whose joints is locked: a six-axis arm on a
+ *   turntable, or an arm with a joint to spare. It solves the six-axis arm that is left and puts the locked
+ *   angle back in its place. Every joint turns. A carriage that travels is none of them: add its way to
+ *   p0, and call saihkeb_solve.
+ *   arm     45 numbers: seven axes h1 to h7, then eight offsets p0 to p7, three numbers (x, y, z) each.
+ *           p0 leads from the base to the first joint, p7 from the last joint to the tool.
+ *   joint   the joint to lock, COUNTED FROM 0: 0 is the joint of axis h1, 6 that of h7.
+ *   angle   where it is locked, in radians: any finite number.
+ *   pose    12 numbers as above, of the tool of the whole arm.
+ *   answer  seven angles in the angle list, that of h1 first, and one byte in the flag list. The angle at
+ *           place `joint` is `angle`, with the bits that it was given; the other six are those of the arm
+ *           that is left. Flags and NaN are as above.
+ *   Limits do not apply here: hold the seven angles against your stops yourself.
+ *   The arm that is left, with r the rotation of the locked joint (axis h(joint + 1), by angle):
+ *     axes      those before the locked one as they are, those behind it turned by r
+ *     offsets   p0 to p(joint - 1) as they are; then p(joint) + r p(joint + 1); those behind it turned by r
+ *     pose      the rotation times the transpose of r; the place as it is
+ *   So joint 0 leaves the axes r h2 .. r h7 and the offsets p0 + r p1, r p2 .. r p7, and joint 6 the axes
+ *   h1 .. h6 and the offsets p0 .. p5, p6 + r p7.
+ *   THE FAMILY IS THAT OF THE ARM THAT IS LEFT, and what "FAMILIES" says holds of its axes and offsets, as
+ *   they are numbered there. Joints 0 and 6 leave an arm of the same family at every angle: joint 0 turns
+ *   all axes alike, and joint 6 changes the last offset alone. Any other joint turns one part of the arm
+ *   against the other: what a family asks of axes on both sides of it, or of the offset
+ *   p(joint) + r p(joint + 1), may hold at some angles alone, or at none.
+ *   EACH AXIS HAS LENGTH 1, THE LOCKED ONE TOO. That is not tested. For the six axes that are left the
+ *   length matters as it does in an arm of 39 numbers. The locked one serves r alone, and is taken at
+ *   length 1 where its own is from 1e-150 to 1e150; one of no length, or below 1e-162, makes NaN, and 8 is
+ *   given; one with a number of 1e155 or more turns nothing, and the answers miss the pose.
+ *   Refusal 8 is given, too, where the arm and the pose are finite and a number of the arm that is left, or
+ *   of the rotation handed on, overflows.
+ *   Before you move: the check is the one above, with seven axes. examples/c/track.c has it.
+ *
  * LISTS
  *   A list is a pointer and the number of its elements (not bytes). It may have any length, and
  *   each call judges the lengths. A null pointer is an empty list, whatever its length says. Else the
@@ -89,7 +123,7 @@
  *   not overlap anything else that the same call is lent. counts, and the twelve numbers that
  *   saihkeb_limits_block writes, are never null. Every number may have any bits.
  *
- * REFUSALS, the first that applies in this order: 10 comes before 4
+ * REFUSALS, the first that applies in this order: 10 comes before 4, and 11 before 7
  *    0  none
  *    1  the block has fewer than 512 bytes                                        block calls
  *    2  word 63 of the block is not the sum of words 0 to 62 modulo 2^64          block calls
@@ -97,12 +131,14 @@
  *   10  the limits are neither twelve numbers nor none, or one of them is infinite or NaN, or a low is
  *       above its high
  *    4  the family is not 1 to 6
- *    5  the arm is not 39 numbers
+ *    5  the arm is not 39 numbers; with seven axes, not 45
  *    6  the pose is not 12 numbers
+ *   11  the locked joint is above 6, or its angle is infinite or NaN                seven axes
  *    7  n is not 0 for families 1 to 5, or not 1 to 400 for family 6
- *    8  a number of the arm or the pose is infinite or NaN
+ *    8  a number of the arm or the pose is infinite or NaN; with seven axes also one of the arm that is
+ *       left or of the rotation handed on
  *    9  there are more answers inside the limits than the angle list has whole sixes, or than the flag
- *       list has bytes
+ *       list has bytes; with seven axes, more answers than whole sevens or bytes
  *   18  the angles are not 6 numbers                                               forward kinematics
  *
  * MEMORY AND TIME
@@ -132,6 +168,8 @@ extern "C" {
 #define SAIHKEB_POSE 12
 #define SAIHKEB_ANGLES 6
 #define SAIHKEB_LIMITS 12
+#define SAIHKEB_TRACK_ARM 45
+#define SAIHKEB_TRACK_ANGLES 7
 #define SAIHKEB_BLOCK 512
 
 /*
@@ -152,6 +190,13 @@ uint64_t saihkeb_solve_block_lent(const uint8_t *block, size_t block_len,
                                   uint64_t counts[2]);
 uint64_t saihkeb_limits_block_lent(const uint8_t *block, size_t block_len,
                                    double limits[SAIHKEB_LIMITS]);
+uint64_t saihkeb_solve_track_lent(uint64_t family, uint64_t n,
+                                  const double *arm, size_t arm_len,
+                                  uint64_t joint, double angle,
+                                  const double *pose, size_t pose_len,
+                                  double *angles, size_t angles_len,
+                                  uint8_t *flags, size_t flags_len,
+                                  uint64_t counts[2]);
 uint64_t saihkeb_forward_kinematics_lent(const double *arm, size_t arm_len,
                                          const double *angles, size_t angles_len,
                                          double *pose, size_t pose_len);
@@ -220,6 +265,36 @@ static inline uint64_t saihkeb_limits_block(const uint8_t *block, size_t block_l
 {
     uint8_t no_block = 0;
     return saihkeb_limits_block_lent(block ? block : &no_block, block ? block_len : 0, limits);
+}
+
+/*
+ * Solves a pose of a seven-axis arm with one joint locked ("SEVEN AXES" above). Gives the refusal: 4, 5, 6,
+ * 11, 7, 8 or 9, the first that applies in this order, or 0. joint is counted from 0.
+ *
+ * counts[0] becomes the number of answers, counts[1] the number of evaluations of the search error (0 but
+ * for family 6, and at most n + 1 + 3128 * n as in a solve). Both are always written.
+ *
+ * Refusals 4 to 8 and 11: both counts are 0, and the two lists keep every value.
+ * Refusal 0: the answers stand in the lists, answer i from angles[7 * i] on and in flags[i].
+ * Refusal 9: counts[0] is the full number all the same, and the first answers that fit both lists are
+ * written; with NULL, 0 for both lists it gives the number alone.
+ * Elements past the last answer written keep their values, always.
+ */
+static inline uint64_t saihkeb_solve_track(uint64_t family, uint64_t n,
+                                           const double *arm, size_t arm_len,
+                                           uint64_t joint, double angle,
+                                           const double *pose, size_t pose_len,
+                                           double *angles, size_t angles_len,
+                                           uint8_t *flags, size_t flags_len,
+                                           uint64_t counts[2])
+{
+    double no_arm = 0, no_pose = 0, no_angle = 0;
+    uint8_t no_flag = 0;
+    return saihkeb_solve_track_lent(family, n,
+                                    arm ? arm : &no_arm, arm ? arm_len : 0, joint, angle,
+                                    pose ? pose : &no_pose, pose ? pose_len : 0,
+                                    angles ? angles : &no_angle, angles ? angles_len : 0,
+                                    flags ? flags : &no_flag, flags ? flags_len : 0, counts);
 }
 
 /*

@@ -77,6 +77,16 @@ struct bytes {
     size_t count;
 };
 
+static double number(const char *word)
+{
+    double value;
+    uint64_t bits = hexadecimal(word, 16);
+    if (word[16])
+        wrong("no number", word);
+    memcpy(&value, &bits, sizeof value);
+    return value;
+}
+
 static struct numbers numbers(const char *word)
 {
     struct numbers list = {NULL, strcmp(word, "-") ? (strlen(word) + 1) / 17 : 0};
@@ -288,6 +298,21 @@ static void limits_block(char **words)
     free_guarded(limits.at, sizeof(double));
 }
 
+/* FAMILY N ARM JOINT ANGLE POSE ANGLES FLAGS */
+static void solve_track(char **words)
+{
+    struct numbers arm = numbers(words[3]), pose = numbers(words[6]);
+    struct numbers angles = lent_numbers(whole(words[7]));
+    struct bytes flags = lent_bytes(whole(words[8]));
+    uint64_t counts[2] = {99, 99};
+    uint64_t refusal = saihkeb_solve_track(whole(words[1]), whole(words[2]), pointer(arm), arm.count, whole(words[4]),
+                                           number(words[5]), pointer(pose), pose.count, pointer(angles), angles.count,
+                                           byte_pointer(flags), flags.count, counts);
+    print_solved(words[0], refusal, counts, angles, flags);
+    free(arm.at);
+    free(pose.at);
+}
+
 static const struct {
     const char *name;
     int words; /* of its line, the name among them */
@@ -296,6 +321,7 @@ static const struct {
     {"solve", 8, solve},
     {"solve_block", 5, solve_block},
     {"limits_block", 2, limits_block},
+    {"solve_track", 9, solve_track},
 };
 
 static void run_line(char *line)

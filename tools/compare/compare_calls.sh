@@ -1,13 +1,17 @@
 #!/usr/bin/env bash
 # Holds the library against the reference program, call by call: refusal, counts, and every element of the
 # lists that a call is lent, with arms, poses, limits, blocks and lists of any length.
-#   tools/compare/compare_calls.sh COUNT [SEED]
-# COUNT calls of `oracle generate-calls`, good ones and ones with every fault; SEED is 1 unless given.
-# tools/compare/calls.c makes them from C with target/staticlib/libsaihkeb.a, which rt builds; the
-# environment variable SAIHKEB_LIBRARY names another library, and nothing is built then. Needs rt, cargo and
-# a C compiler. Prints how often each call gave which refusal; exit status 1 where a line differs.
+#   tools/compare/compare_calls.sh [--track] COUNT [SEED]
+# COUNT calls of `oracle generate-calls`, or with --track of `oracle generate-track` (an arm of seven axes with
+# one joint locked), good ones and ones with every fault; SEED is 1 unless given. tools/compare/calls.c makes them
+# from C with target/staticlib/libsaihkeb.a, which rt builds; the environment variable SAIHKEB_LIBRARY names
+# another library, and nothing is built then. Needs rt, cargo and a C compiler. Prints how often each call
+# gave which refusal, and how often each family, and each locked joint, was solved; exit status 1 where a
+# line differs.
 set -euo pipefail
-[ $# -ge 1 ] || { sed -n '2,8s/^# *//p' "$0" >&2; exit 2; }
+generator=generate-calls
+case ${1:-} in --*) generator=generate-${1#--}; shift ;; esac
+[ $# -ge 1 ] || { sed -n '2,11s/^# *//p' "$0" >&2; exit 2; }
 library=$([ -z "${SAIHKEB_LIBRARY:-}" ] || realpath "$SAIHKEB_LIBRARY")
 cd "$(dirname "$0")/../.."
 count=$1 seed=${2:-1}
@@ -34,18 +38,25 @@ differing() {
 # One chunk through both, and a line for each call and refusal, with their number, to the file of sums.
 compare() { # SEED COUNT
     local differ=0 status=0
-    "$oracle" generate-calls "$@" >"$dir/in"
+    "$oracle" "$generator" "$@" >"$dir/in"
     "$oracle" calls <"$dir/in" >"$dir/want"
     "$dir/calls" <"$dir/in" >"$dir/got" || status=$?
     if [ "$status" -ne 0 ] || ! cmp -s "$dir/want" "$dir/got"; then
         differ=$(differing "$dir/want" "$dir/got")
         [ "$status" -eq 0 ] || differ=$((differ + 1))
-        echo "DIFFERENT (exit status $status): oracle generate-calls $*" >&2
+        echo "DIFFERENT (exit status $status): oracle $generator $*" >&2
         diff "$dir/want" "$dir/got" | head -n 4 | cut -c 1-400 >&2 || true
     fi
     echo "differ $differ" >>"$dir/sums"
-    awk '{ seen[$3 " " $5]++; answers += $3 == "limits_block" ? 0 : $7 }
+    awk '{ seen[$3 " " $5]++; if ($6 == "answers") answers += $7 }
         END { for (key in seen) print key, seen[key]; print "answers", answers + 0 }' "$dir/want" >>"$dir/sums"
+    # What was solved, refusal 0 or 9: the word of the call's line that has the family, or the locked joint.
+    awk -v want="$dir/want" '
+        { getline line < want; split(line, result)
+          if (result[5] != 0 && result[5] != 9) next
+          if ($1 == "solve" || $1 == "solve_track") seen[$1 " family " $2]++
+          if ($1 == "solve_track") seen[$1 " joint " $5]++ }
+        END { for (key in seen) print "solved", key, seen[key] }' "$dir/in" >>"$dir/sums"
 }
 
 : >"$dir/sums"
@@ -58,14 +69,21 @@ done
 
 echo "$count calls, seed $seed; $library"
 sort "$dir/sums" | awk '
+    function list(name, what,    i, text) {
+        for (i = 0; i <= 6; i++) if ((name, what, i) in solved) text = text " " i ": " solved[name, what, i]
+        if (text) print "    solved, by " what ":" text
+    }
     $1 == "differ" { differ += $2; next }
     $1 == "answers" { answers += $2; next }
+    $1 == "solved" { solved[$2, $3, $4] += $5; next }
     { if (!($1 in all)) names[++n] = $1; all[$1] += $3; seen[$1, $2] += $3; if ($2 > most) most = $2 }
     END {
         for (i = 1; i <= n; i++) {
             printf "%s %d, by refusal:", names[i], all[names[i]]
             for (r = 0; r <= most; r++) if ((names[i], r) in seen) printf " %d: %d", r, seen[names[i], r]
             print ""
+            list(names[i], "family")
+            list(names[i], "joint")
         }
         print answers + 0, "answers"
         print differ + 0, "lines differ"

@@ -1,5 +1,5 @@
 /*
- * Tries what include/saihkeb.h says of lists, limits, refusals and memory: C99, and C++ as well.
+ * Tries what include/saihkeb.h says of lists, limits, refusals, seven axes and memory: C99, and C++ as well.
  * tools/test/test_header.sh compiles it both ways and runs it. It prints what does not hold, and at the end
  * how many checks were made.
  */
@@ -22,7 +22,7 @@ static const double arm[SAIHKEB_ARM] = {
 };
 static const double taught[SAIHKEB_ANGLES] = {0.5, -0.3, 0.25, 0.7, -1, 1.3};
 
-static double pose[SAIHKEB_POSE], angles[6 * ROOM];
+static double pose[SAIHKEB_POSE], angles[7 * ROOM];
 static uint8_t flags[ROOM];
 static uint64_t counts[2];
 static int checks, wrong;
@@ -38,22 +38,27 @@ static void check(int holds, const char *text)
 
 static void clear(void)
 {
-    for (int i = 0; i < 6 * ROOM; i++)
+    for (int i = 0; i < 7 * ROOM; i++)
         angles[i] = MARK;
     memset(flags, 77, sizeof flags);
     counts[0] = counts[1] = 99;
 }
 
-/* Whether the lists keep every value from that answer on. */
-static int kept(int from)
+/* Whether the lists keep every value from that answer on, with so many angles to an answer. */
+static int kept_of(int from, int each)
 {
-    for (int i = 6 * from; i < 6 * ROOM; i++)
+    for (int i = each * from; i < 7 * ROOM; i++)
         if (angles[i] != MARK)
             return 0;
     for (int i = from; i < ROOM; i++)
         if (flags[i] != 77)
             return 0;
     return 1;
+}
+
+static int kept(int from)
+{
+    return kept_of(from, 6);
 }
 
 static int none(void)
@@ -407,6 +412,221 @@ static void forward(void)
           "then 18");
 }
 
+/*
+ * Seven axes. With joint j of them locked at LOCKED, this arm leaves `arm`, up to rounding: the axis and the
+ * offset that are put in are along one line, and what is behind them is turned back.
+ */
+#define LOCKED 0.6
+static double track[SAIHKEB_TRACK_ARM], there[SAIHKEB_POSE];
+
+/* v turned about the z axis. */
+static void turn(double angle, const double *v, double *out)
+{
+    double c = cos(angle), s = sin(angle);
+    out[0] = c * v[0] - s * v[1];
+    out[1] = s * v[0] + c * v[1];
+    out[2] = v[2];
+}
+
+/* The pose of the whole is the one that the arm left makes at the taught angles. */
+static void make_track(int joint)
+{
+    const double *offsets = arm + 18;
+    double *h = track, *p = track + 21;
+    for (int i = 0; i < 7; i++)
+        if (i < joint)
+            memcpy(h + 3 * i, arm + 3 * i, 3 * sizeof *h);
+        else if (i > joint)
+            turn(-LOCKED, arm + 3 * (i - 1), h + 3 * i);
+    h[3 * joint] = h[3 * joint + 1] = 0, h[3 * joint + 2] = 1;
+    for (int i = 0; i < 8; i++)
+        if (i <= joint)
+            memcpy(p + 3 * i, offsets + 3 * i, 3 * sizeof *p);
+        else if (i > joint + 1)
+            turn(-LOCKED, offsets + 3 * (i - 1), p + 3 * i);
+    p[3 * joint + 2] -= 0.25;
+    p[3 * joint + 3] = p[3 * joint + 4] = 0, p[3 * joint + 5] = 0.25;
+    /* The rotation handed on is there's times the transpose of r, so there's is pose's times r. */
+    memcpy(there, pose, sizeof there);
+    for (int row = 0; row < 3; row++)
+        turn(-LOCKED, pose + 3 * row, there + 3 * row);
+}
+
+static uint64_t solve_track(uint64_t family, uint64_t n, size_t arm_length, uint64_t joint, double angle,
+                            size_t pose_length)
+{
+    clear();
+    return saihkeb_solve_track(family, n, track, arm_length, joint, angle, there, pose_length, angles, 7 * ROOM, flags,
+                               ROOM, counts);
+}
+
+static uint64_t locked(uint64_t joint, double angle)
+{
+    return solve_track(1, 0, SAIHKEB_TRACK_ARM, joint, angle, SAIHKEB_POSE);
+}
+
+/* Eight answers as sevens, which are those of the arm that is left and the locked angle, bit for bit. */
+static void track_answers(int joint)
+{
+    double by_six[48], put[1] = {LOCKED};
+    uint8_t six_flags[8];
+    int same = 1, near_by = 1;
+    make_track(joint);
+    solve(1, 0, arm, pose);
+    memcpy(by_six, angles, sizeof by_six);
+    memcpy(six_flags, flags, sizeof six_flags);
+    check(locked((uint64_t)joint, LOCKED) == 0 && counts[0] == 8 && counts[1] == 0 && kept_of(8, 7),
+          "track: 8 answers as sevens and no more");
+    for (int i = 0; i < 8; i++) {
+        const double *seven = angles + 7 * i;
+        same &= !memcmp(seven + joint, put, sizeof *put) && flags[i] == six_flags[i];
+        for (int j = 0; j < 6; j++)
+            near_by &= fabs(seven[j + (j >= joint)] - by_six[6 * i + j]) < 1e-9;
+    }
+    check(same, "track: the locked angle at its joint, and the flags");
+    check(near_by, "track: the angles of the arm that is left");
+}
+
+static void track_rooms(int joint)
+{
+    double full[7 * 8];
+    make_track(joint);
+    locked((uint64_t)joint, LOCKED);
+    memcpy(full, angles, sizeof full);
+    for (size_t room = 0; room <= 60; room++) {
+        size_t fit = room / 7 < 8 ? room / 7 : 8;
+        clear();
+        check(saihkeb_solve_track(1, 0, track, SAIHKEB_TRACK_ARM, (uint64_t)joint, LOCKED, there, SAIHKEB_POSE, angles,
+                                  room, flags, ROOM, counts) == (room < 56 ? 9 : 0), "track: 9 goes by whole sevens");
+        check(counts[0] == 8 && kept_of((int)fit, 7) && !memcmp(full, angles, 7 * fit * sizeof *full),
+              "track: the first that fit, and the number");
+    }
+    for (size_t room = 0; room <= 10; room++) {
+        size_t fit = room < 8 ? room : 8;
+        clear();
+        check(saihkeb_solve_track(1, 0, track, SAIHKEB_TRACK_ARM, (uint64_t)joint, LOCKED, there, SAIHKEB_POSE, angles,
+                                  7 * ROOM, flags, room, counts) == (room < 8 ? 9 : 0) && counts[0] == 8
+                  && kept_of((int)fit, 7), "track: flags for some answers");
+    }
+}
+
+static void track_nulls(void)
+{
+    make_track(0);
+    clear();
+    check(saihkeb_solve_track(1, 0, NULL, 0, 0, 0, NULL, 0, NULL, 0, NULL, 0, counts) == 5 && none(),
+          "track: all lists NULL, 0");
+    check(saihkeb_solve_track(1, 0, NULL, SAIHKEB_TRACK_ARM, 0, 0, there, SAIHKEB_POSE, angles, 7 * ROOM, flags, ROOM,
+                              counts) == 5 && none(), "track: NULL is an empty list, whatever its length says");
+    check(saihkeb_solve_track(1, 0, track, SAIHKEB_TRACK_ARM, 0, 0, NULL, SAIHKEB_POSE, NULL, 0, NULL, 0, counts) == 6,
+          "track: pose NULL");
+    check(saihkeb_solve_track(1, 0, track, SAIHKEB_TRACK_ARM, 0, LOCKED, there, SAIHKEB_POSE, NULL, 0, NULL, 0, counts)
+              == 9 && counts[0] == 8, "track: NULL, 0 for both lists gives the number alone");
+    clear();
+    check(saihkeb_solve_track(1, 0, track, SAIHKEB_TRACK_ARM, 0, LOCKED, there, SAIHKEB_POSE, angles, 7 * ROOM, NULL,
+                              ROOM, counts) == 9 && counts[0] == 8 && kept(0), "track: flags NULL");
+    check(saihkeb_solve_track(1, 0, track, SAIHKEB_TRACK_ARM, 0, LOCKED, there, SAIHKEB_POSE, NULL, 7 * ROOM, flags,
+                              ROOM, counts) == 9 && counts[0] == 8 && kept(0), "track: angles NULL");
+}
+
+static void track_refusals(void)
+{
+    const uint64_t no_joint[] = {7, 8, 255, 256, UINT64_C(1) << 32, UINT64_C(1) << 63, UINT64_MAX};
+    const double bad[] = {NAN, -NAN, INFINITY, -INFINITY};
+    const double good[] = {0, -0.0, 1e-310, -7, 1e9, -DBL_MAX, DBL_MAX};
+    make_track(0);
+    check(solve_track(0, 0, 44, 7, NAN, 11) == 4 && none(), "track: 4 comes first");
+    check(solve_track(7, 0, 45, 0, LOCKED, 12) == 4 && none(), "track: family 7");
+    for (size_t length = 0; length < SAIHKEB_TRACK_ARM; length++)
+        check(solve_track(1, 1, length, 7, NAN, 11) == 5 && none(), "track: an arm that is short, and 5 before 6");
+    for (size_t length = 0; length < SAIHKEB_POSE; length++)
+        check(solve_track(1, 1, 45, 7, NAN, length) == 6 && none(), "track: a pose that is short, and 6 before 11");
+    double longer[SAIHKEB_TRACK_ARM + 1] = {0};
+    memcpy(longer, track, sizeof track);
+    clear();
+    check(saihkeb_solve_track(1, 0, longer, 46, 0, LOCKED, there, 12, angles, 7 * ROOM, flags, ROOM, counts) == 5
+              && none(), "track: an arm of 46 numbers");
+    check(saihkeb_solve_track(1, 0, track, 45, 0, LOCKED, longer, 13, angles, 7 * ROOM, flags, ROOM, counts) == 6
+              && none(), "track: a pose of 13 numbers");
+    check(saihkeb_solve_track(1, 0, arm, SAIHKEB_ARM, 0, LOCKED, there, 12, angles, 7 * ROOM, flags, ROOM, counts) == 5
+              && none(), "track: an arm of 39 numbers");
+    for (size_t i = 0; i < sizeof no_joint / sizeof *no_joint; i++)
+        check(locked(no_joint[i], LOCKED) == 11 && none(), "track: a joint above 6");
+    for (uint64_t joint = 0; joint < 7; joint++) {
+        for (int i = 0; i < 4; i++)
+            check(locked(joint, bad[i]) == 11 && none(), "track: an angle that is not finite");
+        for (size_t i = 0; i < sizeof good / sizeof *good; i++)
+            check(locked(joint, good[i]) == 0 && counts[0] <= 8, "track: any other angle");
+    }
+    check(solve_track(1, 1, 45, 7, LOCKED, 12) == 11 && none(), "track: 11 comes before 7");
+    check(solve_track(1, 1, 45, 6, LOCKED, 12) == 7 && none(), "track: family 1 with n = 1");
+    check(solve_track(6, 0, 45, 6, LOCKED, 12) == 7 && none(), "track: family 6 with n = 0");
+    check(solve_track(6, 401, 45, 6, LOCKED, 12) == 7 && none(), "track: family 6 with n = 401");
+    for (int i = 0; i < SAIHKEB_TRACK_ARM; i++) {
+        double was = track[i];
+        track[i] = bad[i % 4];
+        check(locked(0, LOCKED) == 8 && none(), "track: an arm that is not finite");
+        check(solve_track(1, 1, 45, 6, LOCKED, 12) == 7 && none(), "track: 7 comes before 8");
+        check(locked(0, NAN) == 11 && none(), "track: 11 comes before 8");
+        track[i] = was;
+    }
+    for (int i = 0; i < SAIHKEB_POSE; i++) {
+        double was = there[i];
+        there[i] = bad[i % 4];
+        check(locked(6, LOCKED) == 8 && none(), "track: a pose that is not finite");
+        there[i] = was;
+    }
+}
+
+/* What locking makes of numbers that are finite. */
+static void track_handed_on(int joint)
+{
+    const double tiny[] = {0, 1e-310, 1e-163};
+    double *axis = track + 3 * joint;
+    make_track(joint);
+    for (int i = 0; i < 3; i++) {
+        axis[0] = axis[1] = axis[2] = tiny[i];
+        check(locked((uint64_t)joint, LOCKED) == 8 && none(), "track: a locked axis of no length");
+        check(locked((uint64_t)joint, 0) == 8 && none(), "track: a locked axis of no length, not turned");
+    }
+    for (double size = 1e-150; size < 1e151; size *= 1e10) {
+        make_track(joint);
+        axis[2] = size;
+        check(locked((uint64_t)joint, LOCKED) == 0 && counts[0] == 8 && flags[0] == 0, "track: a locked axis of any length");
+    }
+    make_track(joint);
+    track[21 + 3 * joint] = DBL_MAX, track[21 + 3 * joint + 3] = DBL_MAX;
+    check(locked((uint64_t)joint, LOCKED) == 8 && none(), "track: an offset that overflows");
+    make_track(joint);
+    there[0] = there[1] = DBL_MAX;
+    check(locked((uint64_t)joint, -LOCKED) == 8 && none(), "track: a rotation that overflows");
+    make_track(joint);
+    there[9] = DBL_MAX;
+    check(locked((uint64_t)joint, LOCKED) == 0, "track: the place is handed on as it is");
+    if (joint < 6) {
+        make_track(joint);
+        track[3 * joint + 3] = DBL_MAX, track[3 * joint + 4] = -DBL_MAX;
+        check(locked((uint64_t)joint, LOCKED) == 8 && none(), "track: an axis that overflows");
+        make_track(joint);
+        track[21 + 21] = DBL_MAX, track[21 + 22] = -DBL_MAX;
+        check(locked((uint64_t)joint, LOCKED) == 8 && none(), "track: the last offset overflows");
+    }
+    make_track(joint);
+    check(solve_track(6, 25, 45, (uint64_t)joint, LOCKED, 12) % 9 == 0 && counts[1] >= 26
+              && counts[1] <= 25 + 1 + 3128 * 25, "track: a search");
+}
+
+static void tracks(void)
+{
+    track_nulls();
+    track_refusals();
+    for (int joint = 0; joint < 7; joint++) {
+        track_answers(joint);
+        track_rooms(joint);
+        track_handed_on(joint);
+    }
+}
+
 /* The answers of another rounding are others. */
 static void rounding(void)
 {
@@ -423,8 +643,11 @@ static void rounding(void)
 
 static void *every_family(void *unused)
 {
-    for (uint64_t family = 1; family <= 6; family++)
+    for (uint64_t family = 1; family <= 6; family++) {
         check(solve(family, family == 6 ? 400 : 0, arm, pose) % 9 == 0, "a solve in a thread with 256 KB");
+        check(solve_track(family, family == 6 ? 400 : 0, 45, 6, LOCKED, 12) % 9 == 0,
+              "track: a solve in a thread with 256 KB");
+    }
     return unused;
 }
 
@@ -451,6 +674,7 @@ int main(void)
     blocks_under_limits();
     limits_blocks();
     forward();
+    tracks();
     rounding();
     thread();
     printf("%d checks, %d wrong\n", checks, wrong);
