@@ -430,6 +430,12 @@ pub fn run_lines<A: Arith>(input: &mut impl BufRead, output: &mut impl Write) ->
     Ok(())
 }
 
+/// The refusal that a result has.
+#[cfg(test)]
+pub fn refusal_of(result: &str) -> u64 {
+    result.split(' ').nth(2).unwrap().parse().unwrap()
+}
+
 #[cfg(test)]
 mod tests {
     use super::*;
@@ -437,6 +443,7 @@ mod tests {
         arith::Rules,
         generate::{sample, Kind, Sample},
         solve::full_list,
+        tracks::{reachable, Track},
     };
 
     fn run(line: &str) -> String {
@@ -474,12 +481,46 @@ mod tests {
         .to_vec()
     }
 
+    fn some_track() -> Track {
+        reachable(3, 9, 7)
+    }
+
+    fn track_call(angle: f64, angles: usize, flags: usize) -> Call {
+        let t = some_track();
+        Call::SolveTrack {
+            family: t.family,
+            n: t.n,
+            arm: t.arm.to_vec(),
+            lock: Lock {
+                joint: t.joint as u64,
+                angle,
+            },
+            pose: t.pose.to_vec(),
+            room: Room { angles, flags },
+        }
+    }
+
+    fn one_call(limits: &[f64]) -> Call {
+        let s = some_pose();
+        Call::SolveOne {
+            family: 1,
+            n: 0,
+            arm: s.arm.to_vec(),
+            pose: s.pose.to_vec(),
+            limits: limits.to_vec(),
+        }
+    }
+
     #[test]
     fn a_call_as_a_line_is_read_back() {
         let mut odd = WIDE;
         odd[3] = -f64::NAN;
         odd[4] = -0.0;
         let calls = [
+            track_call(-0.0, 56, 8),
+            track_call(-f64::NAN, 0, 0),
+            one_call(&[]),
+            one_call(&odd),
             solve_call(&[], 0, 0),
             solve_call(&odd, 48, 8),
             Call::SolveBlock {
@@ -525,6 +566,24 @@ mod tests {
             ("limits_block +1", "'+1' is not 2"),
             ("limits_block ", "an empty list of bytes is '-'"),
             ("solve_block - - 0", "4 words"),
+            (
+                "solve_track 1 0 - 0 - 0 0",
+                "8 words are not those of solve_track",
+            ),
+            (
+                "solve_track 1 0 - -1 0000000000000000 - 0 0",
+                "'-1' is not a whole",
+            ),
+            (
+                "solve_track 1 0 - 0 - - 0 0",
+                "'-' is not 16 hexadecimal digits",
+            ),
+            ("solve_track 1 0 - 0 0 - 0 0", "'0' is not 16"),
+            (
+                "solve_one 1 0 - - - 0 0",
+                "8 words are not those of solve_one",
+            ),
+            ("solve_one 1 0 - -", "5 words"),
         ] {
             let wrong = Call::parse(line).unwrap_err();
             assert!(wrong.contains(part), "{line}: {wrong}");
@@ -720,5 +779,64 @@ mod tests {
                 format!("limits_block refusal {refusal} limits *12")
             );
         }
+    }
+
+    /// The answers of a track in lists of 15 and 3 elements; then what is refused, and its zeros.
+    #[test]
+    fn a_track_result_has_sevens() {
+        let t = some_track();
+        let call = track_call(t.angle, 15, 3);
+        let result = call.run::<Rules>();
+        let words: Vec<&str> = result.split(' ').collect();
+        assert_eq!(words[..4], ["solve_track", "refusal", "9", "answers"]);
+        assert_eq!(words[5..8], ["evals", "0", "angles"]);
+        let angles: Vec<&str> = words[8].split(',').collect();
+        assert_eq!((angles.len(), angles[14]), (15, "*1"));
+        for seven in angles[..14].chunks(7) {
+            assert_eq!(seven[t.joint], written_number(t.angle));
+        }
+        assert!(words[10].ends_with(",*1") && words[10].len() == 6);
+        assert_eq!(
+            track_call(f64::NAN, 7, 1).run::<Rules>(),
+            "solve_track refusal 11 answers 0 evals 0 angles *7 flags *1"
+        );
+        let line = call.to_string();
+        let Call::SolveTrack { arm, .. } = &call else {
+            panic!("a track");
+        };
+        let all = written_numbers(arm);
+        let short = line.replacen(&all, &all[17..], 1);
+        let none = "answers 0 evals 0 angles *15 flags *3";
+        assert_eq!(run(&short), format!("solve_track refusal 5 {none}"));
+    }
+
+    #[test]
+    fn one_result_has_six_angles_and_a_flag_always() {
+        let s = some_pose();
+        let full = full_list::<Rules>(1, 0, &s.arm, &s.pose).ok().unwrap();
+        let given = |i: usize| {
+            let six: Vec<f64> = full.angles[i].iter().collect();
+            let (six, flag) = (written_numbers(&six), full.flags[i] as u8);
+            format!("solve_one refusal 0 angles {six} flag {flag}")
+        };
+        assert_eq!(one_call(&[]).run::<Rules>(), given(0));
+        assert_eq!(one_call(&WIDE).run::<Rules>(), given(0));
+        let last = full.angles.len() - 1;
+        let mut limits = WIDE;
+        for joint in 0..6 {
+            limits[2 * joint..2 * joint + 2].fill(full.angles[last][joint]);
+        }
+        assert_eq!(one_call(&limits).run::<Rules>(), given(last));
+        let zeros = written_numbers(&[0.0; 6]);
+        (limits[0], limits[1]) = (8.0, 9.0);
+        for (limits, refusal) in [(&limits[..], 12), (&limits[1..], 10)] {
+            let refused = format!("solve_one refusal {refusal} angles {zeros} flag 0");
+            assert_eq!(one_call(limits).run::<Rules>(), refused);
+        }
+        let line = "solve_one 6 401 - - -";
+        assert_eq!(
+            run(line),
+            format!("solve_one refusal 5 angles {zeros} flag 0")
+        );
     }
 }

@@ -128,11 +128,39 @@ fn solve(s: Sample, rng: &mut Rng) -> Call {
 /// n for one answer in family 6: now and then as large as in use, for the first of a long list.
 const ONE_COUNTS: [u64; 12] = [1, 1, 2, 2, 3, 5, 7, 12, 25, 25, 60, 200];
 
+/// Poses whose list has an answer with a NaN before one without, by kind, family and place: limits leave
+/// the first out. They are rare, and all of one seed.
+const BEHIND_NAN: [(Kind, u64, u64); 14] = [
+    (Kind::Hostile, 1, 1712),
+    (Kind::Hostile, 1, 2238),
+    (Kind::Hostile, 1, 3251),
+    (Kind::Hostile, 1, 3530),
+    (Kind::Hostile, 2, 682),
+    (Kind::Hostile, 2, 1547),
+    (Kind::Hostile, 2, 2072),
+    (Kind::Hostile, 2, 2946),
+    (Kind::Round, 4, 1520),
+    (Kind::Round, 5, 95),
+    (Kind::Round, 5, 443),
+    (Kind::Round, 5, 1240),
+    (Kind::Round, 5, 1823),
+    (Kind::Round, 5, 2905),
+];
+const BEHIND_NAN_SEED: u64 = 77;
+
+fn behind_nan(family: u64, rng: &mut Rng) -> Option<Sample> {
+    let (kind, own, place) = rng.pick(&BEHIND_NAN);
+    (own == family).then(|| sample(kind, family, BEHIND_NAN_SEED, place, None))
+}
+
 /// The call for one answer at a place of a generated list.
 pub fn one_call(seed: u64, place: u64) -> Call {
     let rng = &mut Rng::of(&[seed, 8, place]);
     let (kind, n) = (rng.pick(&POSES), rng.pick(&ONE_COUNTS));
-    let s = sample(kind, 1 + place % 6, seed, place, Some(n));
+    let family = 1 + place % 6;
+    let s = behind_nan(family, rng)
+        .filter(|_| rng.once_in(4))
+        .unwrap_or_else(|| sample(kind, family, seed, place, Some(n)));
     let asked = Asked::of(&s).with_faults(&ARM_LENGTHS, rng);
     let limits = lent_limits(&asked.answers(), rng);
     let Asked {
@@ -260,13 +288,10 @@ pub fn room_for(answers: usize, each: usize, rng: &mut Rng) -> Room {
 #[cfg(test)]
 mod tests {
     use super::*;
+    use crate::calls::refusal_of;
     use std::collections::{BTreeMap, BTreeSet};
 
     const COUNT: u64 = 1500;
-
-    fn refusal_of(result: &str) -> u64 {
-        result.split(' ').nth(2).unwrap().parse().unwrap()
-    }
 
     #[test]
     fn the_same_arguments_make_the_same_call() {
@@ -276,14 +301,19 @@ mod tests {
             assert_ne!(line, call(6, place).to_string());
             assert_ne!(line, call(5, place + 6).to_string());
             assert_eq!(Call::parse(&line).unwrap().to_string(), line);
+            let line = one_call(5, place).to_string();
+            assert_eq!(line, one_call(5, place).to_string());
+            assert_ne!(line, one_call(6, place).to_string());
+            assert_ne!(line, one_call(5, place + 6).to_string());
+            assert_eq!(Call::parse(&line).unwrap().to_string(), line);
         }
     }
 
     #[test]
     fn every_refusal_of_every_call_comes() {
         let mut seen: BTreeMap<&str, BTreeMap<u64, usize>> = BTreeMap::new();
-        for place in 0..COUNT {
-            let call = call(1, place);
+        let calls = (0..COUNT).map(|place| call(1, place));
+        for call in calls.chain((0..COUNT).map(|place| one_call(1, place))) {
             let refusal = refusal_of(&call.run::<Rules>());
             let counts = seen.entry(call.name()).or_default();
             *counts.entry(refusal).or_default() += 1;
@@ -292,25 +322,32 @@ mod tests {
         assert_eq!(refusals("solve"), [0, 4, 5, 6, 7, 8, 9, 10]);
         assert_eq!(refusals("solve_block"), [0, 1, 2, 3, 4, 7, 8, 9, 10]);
         assert_eq!(refusals("limits_block"), [0, 1, 2, 3, 10]);
-        assert!(
-            seen["solve"].values().all(|&count| count > 20),
-            "{:?}",
-            seen["solve"]
-        );
+        assert_eq!(refusals("solve_one"), [0, 4, 5, 6, 7, 8, 10, 12]);
+        for name in ["solve", "solve_one"] {
+            let counts = &seen[name];
+            assert!(counts.values().all(|&count| count > 20), "{counts:?}");
+        }
         let accepted = seen["solve"][&0] + seen["solve"][&9];
         assert!(accepted > COUNT as usize * 3 / 10, "{accepted}");
     }
 
-    /// The refusals that apply to a solve call, of 10 and 4 to 8.
+    /// The refusals that apply to a solve call or to one for one answer, of 10 and 4 to 8.
     fn faults(call: &Call) -> Vec<u64> {
-        let Call::Solve {
+        let (Call::Solve {
             family,
             n,
             arm,
             pose,
             limits,
             ..
-        } = call
+        }
+        | Call::SolveOne {
+            family,
+            n,
+            arm,
+            pose,
+            limits,
+        }) = call
         else {
             return Vec::new();
         };
@@ -335,26 +372,37 @@ mod tests {
 
     #[test]
     fn several_faults_come_at_once_and_the_first_is_given() {
-        let mut pairs = BTreeSet::new();
-        for place in 0..3 * COUNT {
-            let call = call(2, place);
-            let faults = faults(&call);
-            if let [first, second, ..] = faults[..] {
-                assert_eq!(refusal_of(&call.run::<Rules>()), first);
-                pairs.insert((first, second));
+        for (call, count) in [
+            (call as fn(u64, u64) -> Call, 3 * COUNT),
+            (one_call, 2 * COUNT),
+        ] {
+            let mut pairs = BTreeSet::new();
+            for place in 0..count {
+                let call = call(2, place);
+                let faults = faults(&call);
+                if let [first, second, ..] = faults[..] {
+                    assert_eq!(refusal_of(&call.run::<Rules>()), first);
+                    pairs.insert((first, second));
+                }
             }
-        }
-        let neighbours = [(10, 4), (4, 5), (5, 6), (6, 7), (7, 8)];
-        for pair in neighbours {
-            assert!(pairs.contains(&pair), "{pair:?}: {pairs:?}");
+            let neighbours = [(10, 4), (4, 5), (5, 6), (6, 7), (7, 8)];
+            for pair in neighbours {
+                assert!(pairs.contains(&pair), "{pair:?}: {pairs:?}");
+            }
         }
     }
 
     #[test]
     fn limits_of_every_length_and_sort_come() {
+        limits_of_every_sort(call, 3 * COUNT);
+        limits_of_every_sort(one_call, 2 * COUNT);
+    }
+
+    fn limits_of_every_sort(call: fn(u64, u64) -> Call, count: u64) {
         let (mut lengths, mut sorts) = (BTreeSet::new(), BTreeMap::new());
-        for place in 0..3 * COUNT {
-            let Call::Solve { limits, .. } = call(3, place) else {
+        for place in 0..count {
+            let (Call::Solve { limits, .. } | Call::SolveOne { limits, .. }) = call(3, place)
+            else {
                 continue;
             };
             lengths.insert(limits.len());
@@ -426,5 +474,59 @@ mod tests {
         }
         assert_eq!(seen.len(), 11);
         assert!(seen.values().all(|&count| count > 15), "{seen:?}");
+    }
+
+    /// Among the calls for one answer that are accepted the first of the list is given, a later one and
+    /// the last, with and without its flag; and none stays of a list, or there is none.
+    #[test]
+    fn one_answer_is_any_of_a_list() {
+        let mut seen = BTreeMap::new();
+        for place in 0..2 * COUNT {
+            let call = one_call(4, place);
+            let Call::SolveOne {
+                family,
+                n,
+                ref arm,
+                ref pose,
+                ref limits,
+            } = call
+            else {
+                continue;
+            };
+            if !faults(&call).is_empty() {
+                continue;
+            }
+            let answers = answers_of(family, n, arm, pose);
+            let judged = Limits::judge(limits).unwrap();
+            let stays = |q: &&Vector6| judged.is_none_or(|limits| limits.admit(q));
+            let first = answers.iter().position(|q| stays(&q));
+            let result = call.run::<Rules>();
+            assert_eq!(first.is_none(), refusal_of(&result) == 12);
+            let is_nan = |q: &Vector6| q.iter().any(f64::is_nan);
+            for (sort, has) in [
+                ("the first", first == Some(0)),
+                ("a later one", first.is_some_and(|at| at > 0)),
+                (
+                    "the last of several",
+                    first.is_some_and(|at| at > 0 && at + 1 == answers.len()),
+                ),
+                ("the tenth or later", first.is_some_and(|at| at >= 9)),
+                ("with a NaN", first.is_some_and(|at| is_nan(&answers[at]))),
+                (
+                    "behind one with a NaN",
+                    first.is_some_and(|at| answers[..at].iter().any(is_nan)),
+                ),
+                ("flagged", result.ends_with(" flag 1")),
+                ("unflagged", first.is_some() && result.ends_with(" flag 0")),
+                ("none stays", first.is_none() && !answers.is_empty()),
+                ("no answer", answers.is_empty()),
+                ("no limits", limits.is_empty() && first.is_some()),
+                ("no answer, no limits", limits.is_empty() && first.is_none()),
+                ("of a long list", first.is_some() && answers.len() > 20),
+            ] {
+                *seen.entry(sort).or_insert(0) += has as usize;
+            }
+        }
+        assert!(seen.values().all(|&count| count > 5), "{seen:?}");
     }
 }

@@ -503,8 +503,8 @@ fn write_track_miss(output: &mut impl Write, families: &[track_miss::Counts; 6])
     for (c, family) in families.iter().zip(1..) {
         writeln!(
             output,
-            "family {family} poses {} answers {} flagged {} untrue {}",
-            c.poses, c.answers, c.flagged, c.untrue
+            "family {family} poses {} own-angles {} answers {} flagged {} untrue {}",
+            c.poses, c.own, c.answers, c.flagged, c.untrue
         )?;
         for (name, classes) in [("regular", c.regular), ("singular", c.singular)] {
             for (axes, class) in ["seven", "six"].into_iter().zip(classes) {

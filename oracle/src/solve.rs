@@ -425,6 +425,10 @@ mod tests {
         solve_one::<Rules>(family, n, arm, pose, limits)
     }
 
+    fn alike(one: &Vector6, other: &Vector6) -> bool {
+        same(one, &other.iter().collect::<Vec<f64>>())
+    }
+
     /// The refusal, where it has six times +0.0 and flag 0 beside it.
     fn refusal_alone(one: &OneAnswer) -> u32 {
         assert!(one.refusal != 0 && same(&one.angles, &[0.0; 6]) && one.flag == 0);
@@ -452,23 +456,23 @@ mod tests {
         }
     }
 
-    /// Limits that leave answer k and all behind it in q1's order give the first of these in the list's
-    /// order, which is the first that the solve call writes; limits that leave none give 12.
+    /// Limits from an answer's own angle on leave that answer and others. Given is the first of these in
+    /// the list's order, which is the first that the solve call writes; limits that leave none give 12.
     #[test]
     fn one_answer_is_the_first_of_the_filtered_list() {
         let (mut later, mut flagged) = (0, 0);
-        for place in 0..60 {
+        for place in 0..42 {
             let family = 1 + place % 6;
             let s = sample(Kind::Reachable, family, 22, place, Some(7));
             let full = full_list::<Rules>(family, s.n, &s.arm, &s.pose)
                 .ok()
                 .unwrap();
             let free = one(family, s.n, &s.arm, &s.pose, &[]);
-            assert!(same(
-                &full.angles[0],
-                &free.angles.iter().collect::<Vec<_>>()
-            ));
-            for joint in 0..6 {
+            match full.angles.first() {
+                Some(first) => assert!(free.refusal == 0 && alike(first, &free.angles)),
+                None => assert_eq!(refusal_alone(&free), 12),
+            }
+            for joint in [0, 2, 5] {
                 for own in &full.angles {
                     let mut limits = WIDE;
                     limits[2 * joint] = own[joint];
@@ -476,8 +480,7 @@ mod tests {
                     let first = (0..full.angles.len())
                         .find(|&k| full.angles[k][joint] >= own[joint])
                         .expect("its own answer stays");
-                    let six: Vec<f64> = given.angles.iter().collect();
-                    assert!(given.refusal == 0 && same(&full.angles[first], &six));
+                    assert!(given.refusal == 0 && alike(&full.angles[first], &given.angles));
                     assert_eq!(given.flag, full.flags[first] as u8);
                     later += (first > 0) as usize;
                     flagged += given.flag as usize;
@@ -493,7 +496,7 @@ mod tests {
                 assert_eq!(refusal_alone(&none), 12);
             }
         }
-        assert!(later > 300 && flagged > 300, "{later} {flagged}");
+        assert!(later > 200 && flagged > 100, "{later} {flagged}");
     }
 
     /// Without limits an answer of NaNs is a member like any other; any limits leave it out.

@@ -1,13 +1,14 @@
 //! How far an arm on a track stands from the wanted pose, where its joints are at the angles of an answer.
 //!
-//! Only unflagged answers count. Beside the seven axes stand the six of the reduced arm with the pose that
-//! was handed on: what the seven miss by beyond that, locking a joint adds.
+//! Only unflagged answers are measured. Beside the seven axes stand the six of the reduced arm with the
+//! pose that was handed on: what the seven miss by beyond that, locking a joint adds.
 
 use crate::{
     arith::{Arith, Rules},
     differ::{is_singular, Largest},
     inverse_kinematics::auxiliary::Kinematics,
-    linalg::Matrix,
+    linalg::{Matrix, Vector6},
+    missed::distance,
     recover::TOLERANCE,
     solve::{family_answers, pose_parts},
     track::{put_back, Reduced},
@@ -33,6 +34,8 @@ impl Misses {
 #[derive(Default, Clone, Copy)]
 pub struct Counts {
     pub poses: u64,
+    /// Poses that have the angles that made them among their answers.
+    pub own: u64,
     pub answers: u64,
     pub flagged: u64,
     /// Unflagged answers with which the six-axis arm itself misses the pose that it was handed.
@@ -74,7 +77,9 @@ impl Counts {
         let reduced = Reduced::new::<A>(&track.arm, track.joint, track.angle, &track.pose);
         let kin = &reduced.kin;
         let list = family_answers::<A>(track.family, track.n as usize, kin, &reduced.pose);
+        let found = |six: &Vector6| distance(six, &track.angles) <= TOLERANCE;
         self.poses += 1;
+        self.own += list.angles.iter().any(found) as u64;
         for (six, flag) in list.iter() {
             self.answers += 1;
             if flag {
@@ -106,4 +111,42 @@ pub fn track_miss<A: Arith>(seed: u64, count: u64, n: u64) -> [Counts; 6] {
         counts[track.family as usize - 1].look::<A>(&track, pose);
     }
     counts
+}
+
+#[cfg(test)]
+mod tests {
+    use super::*;
+
+    /// Every family has answers that make their pose, by seven axes as by six.
+    #[test]
+    fn seven_axes_miss_by_as_little_as_six() {
+        for counts in track_miss::<Rules>(2, 252, 25) {
+            let [seven, six] = counts.regular;
+            assert_eq!(counts.poses, 42);
+            assert!(counts.own > 20 && seven.answers > 80, "{}", seven.answers);
+            assert_eq!(seven.answers, six.answers);
+            assert!((seven.place.difference - six.place.difference).abs() < 1e-7);
+            assert!((seven.rotation.difference - six.rotation.difference).abs() < 1e-13);
+            assert!(seven.place.difference < 1e-6 && seven.rotation.difference < 1e-6);
+        }
+    }
+
+    /// A miss is by place relative to the arm's length, and by rotation.
+    #[test]
+    fn a_miss_is_a_distance() {
+        let track = reachable(2, 0, 7);
+        let whole = Kinematics::from_track_arm(&track.arm);
+        let own = put_back(&track.angles.into(), track.joint, track.angle);
+        let length: f64 = (0..8).map(|i| whole.p.column(i).norm()).sum();
+        let miss = |pose: [f64; 12]| Miss::new(&whole, &own, &pose);
+        let none = miss(track.pose);
+        assert_eq!((none.place, none.rotation), (0.0, 0.0));
+        let mut moved = track.pose;
+        moved[10] += 0.25 * length;
+        moved[4] += 0.5;
+        let some = miss(moved);
+        assert!((some.place - 0.25).abs() < 1e-15 && (some.rotation - 0.5).abs() < 1e-15);
+        moved[0] = f64::NAN;
+        assert_eq!(miss(moved).rotation, f64::INFINITY);
+    }
 }
