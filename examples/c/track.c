@@ -82,7 +82,8 @@ int main(void)
         q[i] = taught[i] * DEGREE;
     find_pose(q, pose);
     uint64_t refusal = saihkeb_solve_track(FAMILY, 0, arm, SAIHKEB_TRACK_ARM, TURNTABLE, q[TURNTABLE],
-                                           pose, SAIHKEB_POSE, angles, SAIHKEB_TRACK_ANGLES * ROOM, flags, ROOM, counts);
+                                           pose, SAIHKEB_POSE, angles, SAIHKEB_TRACK_ANGLES * ROOM, flags, ROOM,
+                                           counts);
     if (refusal) {
         fprintf(stderr, "refusal %" PRIu64 "\n", refusal);
         return 1;

@@ -37,7 +37,7 @@ echo "degrees: $(wc -l <"$log/program") answers, $(wc -l <"$log/inside") inside 
 sed 's/^/   50.0000/; s/$/  makes the pose/' "$log/program" >"$log/track"
 target/examples/track_c | cmp "$log/track" -
 target/examples/solve_rust track | cmp "$log/track" -
-echo "on a turntable: $(wc -l <"$log/track") answers of seven angles, C and Rust as the program's, and each makes the pose"
+echo "on a turntable: $(wc -l <"$log/track") answers, C and Rust as the program, and each makes the pose"
 
 # The lines of the program and of both examples for the blocks in a file, each input in a process of its
 # own, for it may end in a short block.
