@@ -111,7 +111,7 @@
  *   EACH AXIS HAS LENGTH 1, THE LOCKED ONE TOO. That is not tested. For the six axes that are left the
  *   length matters as it does in an arm of 39 numbers. The locked one serves r alone, and is taken at
  *   length 1 where its own is from 1e-150 to 1e150; one of no length, or below 1e-162, makes NaN, and 8 is
- *   given; one with a number of 1e155 or more turns nothing, and the answers miss the pose.
+ *   given; one with a number of 1e155 or more turns nothing, so that the answers miss the pose.
  *   Refusal 8 is given, too, where the arm and the pose are finite and a number of the arm that is left, or
  *   of the rotation handed on, overflows.
  *   Before you move: the check is the one above, with seven axes. examples/c/track.c has it.

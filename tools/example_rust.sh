@@ -1,6 +1,7 @@
 #!/usr/bin/env bash
-# Builds the library and the Rust example that links it, and runs it: a pose's answers in degrees.
-# Needs rt and rustc.   tools/example_rust.sh
+# Builds the library and the Rust example that links it, and runs it: a pose's answers in degrees. The first
+# lines of examples/rust/main.rs have its words, among them `track` for the arm on a turntable.
+# Needs rt and rustc.   tools/example_rust.sh [WORD]
 set -eu
 cd "$(dirname "$0")/.."
 rt staticlib saihkeb >/dev/null

@@ -3,9 +3,11 @@
 //!
 //!   solve          the pose below, in degrees
 //!   solve inside   the same, with the answers inside the joint limits below alone
+//!   solve track    the same arm on a turntable, which is locked (track.rs; in C examples/c/track.c)
 //!   solve lines    blocks from standard input, limits blocks among them, and the program's lines for each
 
 mod saihkeb;
+mod track;
 
 use std::io::{self, Read, Write};
 
@@ -110,6 +112,7 @@ fn lines() -> io::Result<()> {
 fn main() -> io::Result<()> {
     match std::env::args().nth(1).as_deref() {
         Some("lines") => lines(),
+        Some("track") => track::degrees(),
         Some("inside") => degrees(&STOPS.map(|stop| stop * DEGREE)),
         _ => degrees(&[]),
     }

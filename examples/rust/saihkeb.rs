@@ -37,6 +37,21 @@ mod library {
             block_len: usize,
             limits: *mut [f64; 12],
         ) -> u64;
+        pub fn saihkeb_solve_track_lent(
+            family: u64,
+            n: u64,
+            arm: *const f64,
+            arm_len: usize,
+            joint: u64,
+            angle: f64,
+            pose: *const f64,
+            pose_len: usize,
+            angles: *mut f64,
+            angles_len: usize,
+            flags: *mut u8,
+            flags_len: usize,
+            counts: *mut [u64; 2],
+        ) -> u64;
         pub fn saihkeb_forward_kinematics_lent(
             arm: *const f64,
             arm_len: usize,
@@ -117,6 +132,38 @@ pub fn limits_block(block: &[u8]) -> Result<[f64; 12], u64> {
         0 => Ok(limits),
         refusal => Err(refusal),
     }
+}
+
+/// The solve call for seven axes, with one joint locked: the joint, counted from 0, and its angle. An answer is
+/// seven angles.
+pub fn solve_track(
+    family: u64,
+    n: u64,
+    arm: &[f64],
+    (joint, angle): (u64, f64),
+    pose: &[f64],
+    angles: &mut [f64],
+    flags: &mut [u8],
+) -> Solved {
+    let mut counts = [0; 2];
+    let refusal = unsafe {
+        library::saihkeb_solve_track_lent(
+            family,
+            n,
+            arm.as_ptr(),
+            arm.len(),
+            joint,
+            angle,
+            pose.as_ptr(),
+            pose.len(),
+            angles.as_mut_ptr(),
+            angles.len(),
+            flags.as_mut_ptr(),
+            flags.len(),
+            &mut counts,
+        )
+    };
+    solved(refusal, counts)
 }
 
 fn solved(refusal: u64, [answers, evaluations]: [u64; 2]) -> Solved {

@@ -31,6 +31,8 @@ fn layout(group: Group) -> Layout {
         Group::Kinematics => (45, 18),
         // n, arm, pose; answers, evaluations, the first answers, the hash.
         Group::Families => (1 + 39 + 12, 2 + 7 * ANSWERS_KEPT + 1),
+        // Arm, joint, angle, rotation; the reduced arm, the rotation.
+        Group::Track => (45 + 1 + 1 + 9, 39 + 9),
     };
     Layout { arguments, results }
 }
@@ -161,6 +163,10 @@ families: 112 words: id (the family, 1 to 6), n (0 for 1 to 5), arm 39, pose 12 
    words in their order. Arm and pose are finite and n is in range, so the solve call accepts
    every record.
 
+track: 105 words: id, 56 argument words, 48 result words
+   0 forward_kinematics_partial(arm 45, joint 0 to 6 as a whole number, angle, rotation by rows) ->
+     the reduced arm (39), the locked joint's own rotation times the one given, by rows (9)
+
 Searches, as `oracle searches KIND SEED COUNT [N]` writes them: 54 words, then 13 for each pair.
    The 54 are n, arm 39, pose 12, the number of pairs, the evaluations. A pair's 13 are q1, the
    component, what added it as four words, and its answer: six angles, flag.
@@ -181,7 +187,7 @@ mod tests {
 
     #[test]
     fn every_group_fits_its_layout() {
-        let words = [5, 28, 7, 64, 64, 64, 112];
+        let words = [5, 28, 7, 64, 64, 64, 112, 105];
         for ((_, group), words) in GROUPS.iter().zip(words) {
             let functions = FUNCTIONS.iter().filter(|f| f.group == *group).count();
             let mut output = Vec::new();
@@ -189,6 +195,22 @@ mod tests {
             write_cases::<Rules>(&mut output, *group, 11, count as u64, &[]).unwrap();
             assert_eq!(output.len(), 8 * words * functions * count);
         }
+    }
+
+    /// Every joint comes, with finite results and with others.
+    #[test]
+    fn every_joint_is_among_a_tracks_records() {
+        let function = FUNCTIONS.iter().find(|f| f.group == Group::Track).unwrap();
+        let mut seen = std::collections::BTreeSet::new();
+        for place in 0..300 {
+            let rng = &mut Rng::of(&[3, place]);
+            let words = record::<Rules>(function, &arguments(function, rng));
+            let joint = words[1 + crate::functions::JOINT_WORD];
+            let mut results = words[57..].iter().map(|&bits| f64::from_bits(bits));
+            seen.insert((joint, results.all(f64::is_finite)));
+        }
+        let wanted = (0..7).flat_map(|joint| [(joint, false), (joint, true)]);
+        assert!(seen.into_iter().eq(wanted));
     }
 
     #[test]

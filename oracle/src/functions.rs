@@ -10,9 +10,10 @@ pub enum Group {
     Subproblems,
     Kinematics,
     Families,
+    Track,
 }
 
-pub const GROUPS: [(&str, Group); 7] = [
+pub const GROUPS: [(&str, Group); 8] = [
     ("float", Group::Float),
     ("linear", Group::Linear),
     ("complex", Group::Complex),
@@ -20,6 +21,7 @@ pub const GROUPS: [(&str, Group); 7] = [
     ("subproblems", Group::Subproblems),
     ("kinematics", Group::Kinematics),
     ("families", Group::Families),
+    ("track", Group::Track),
 ];
 
 /// What an argument stands for, so that suitable numbers can be made for it.
@@ -44,6 +46,8 @@ pub enum Kind {
     Angles,
     /// A whole number.
     Count,
+    /// A whole number from 0 to 6.
+    Joint,
     /// A whole number, then as many triples.
     Triples,
 }
@@ -52,7 +56,8 @@ impl Kind {
     /// The number of words; a list of triples has its count alone as a fixed part.
     pub fn words(self) -> usize {
         match self {
-            Kind::Real | Kind::Angle | Kind::Length | Kind::Count | Kind::Triples => 1,
+            Kind::Real | Kind::Angle | Kind::Length => 1,
+            Kind::Count | Kind::Joint | Kind::Triples => 1,
             Kind::Vector2 | Kind::Complex => 2,
             Kind::Vector | Kind::Axis => 3,
             Kind::Vector4 | Kind::Matrix2 => 4,
@@ -362,10 +367,36 @@ pub const FUNCTIONS: &[Function] = &[
     ),
     entry(Group::Families, 5, "three_parallel", FAMILY_SHAPE),
     entry(Group::Families, 6, "two_parallel", FAMILY_SHAPE),
+    entry(Group::Track, 0, "forward_kinematics_partial", TRACK_SHAPE),
 ];
 
 /// n, the arm, the pose.
 const FAMILY_SHAPE: &[Kind] = &[Kind::Count, Kind::Arm, Kind::Pose];
+
+/// Seven axes, eight offsets, the locked joint and its angle, and a rotation behind the arm.
+const TRACK_SHAPE: &[Kind] = &[
+    Kind::Axis,
+    Kind::Axis,
+    Kind::Axis,
+    Kind::Axis,
+    Kind::Axis,
+    Kind::Axis,
+    Kind::Axis,
+    Kind::Vector,
+    Kind::Vector,
+    Kind::Vector,
+    Kind::Vector,
+    Kind::Vector,
+    Kind::Vector,
+    Kind::Vector,
+    Kind::Vector,
+    Kind::Joint,
+    Kind::Angle,
+    Kind::Matrix,
+];
+
+/// The word of the joint among a track's arguments.
+pub const JOINT_WORD: usize = 45;
 
 pub fn by_name(name: &str) -> Option<&'static Function> {
     FUNCTIONS.iter().find(|function| function.name == name)

@@ -91,7 +91,7 @@ usage: oracle COMMAND
                                          two programs' lines for generate's blocks, from the
                                          files ONE and TWO, beside each other
   cases GROUP SEED COUNT [ID..]          test records; GROUP is float, linear, complex, polynomial,
-                                         subproblems, kinematics or families
+                                         subproblems, kinematics, families or track
   searches KIND SEED COUNT [N]           searches of family 6 with all that they find, as records;
                                          without N, n goes from 1 to 400 and begins again
   layout                                 the layouts of the test records
@@ -631,6 +631,9 @@ fn call<A: Arith>(
         if words.len() != arity {
             let found = words.len();
             return Err(format!("line {}: {found} words, not {arity}", place + 1));
+        }
+        if function.group == Group::Track && words[functions::JOINT_WORD] > 6 {
+            return Err(format!("line {}: the joint is not 0 to 6", place + 1));
         }
         let mut fields = run::Fields::default();
         run::run::<A>(function, &words, &mut fields);

@@ -179,6 +179,7 @@ pub fn run<A: Arith>(function: &Function, words: &[u64], sink: &mut impl Sink) {
         Group::Polynomial => run_polynomial::<A>(function.id, args, sink),
         Group::Subproblems => run_subproblem::<A>(function.id, args, sink),
         Group::Kinematics => run_forward::<A>(args, sink),
+        Group::Track => run_partial::<A>(args, sink),
         Group::Families => run_family::<A>(function.id, args, sink),
     }
 }
@@ -354,6 +355,17 @@ fn run_forward<A: Arith>(args: &mut Args, sink: &mut impl Sink) {
     let (r, p) = kin.forward_kinematics::<A>(&theta);
     entries(sink, &r);
     entries(sink, &p);
+}
+
+/// The reduced arm's numbers, then the rotation by rows.
+fn run_partial<A: Arith>(args: &mut Args, sink: &mut impl Sink) {
+    let kin = Kinematics::from_track_arm(&args.reals());
+    let (n, q_n, r_6t) = (args.count(), args.real(), args.matrix());
+    let (reduced, r) = kin.forward_kinematics_partial::<A>(q_n, n, &r_6t);
+    for x in reduced.numbers() {
+        sink.number(x);
+    }
+    entries(sink, &r);
 }
 
 /// Reads n, the arm and the pose, and solves; no refusal applies here.

@@ -1,8 +1,8 @@
 #!/usr/bin/env bash
-# Builds the C and the Rust example and the program, and holds the examples' angles to the
-# program's: the degrees that they print for their own pose, without limits and inside theirs; every line
-# of COUNT poses for each family and of blocks that are refused; and the same poses with limits blocks
-# among them. Then tools/test/test_header.sh. Needs rt, cargo, a C and a C++ compiler and python3.
+# Builds the C and the Rust examples and the program, and holds the examples' angles to the
+# program's: the degrees that they print for their own pose, without limits and inside theirs, and on a
+# turntable; every line of COUNT poses for each family and of blocks that are refused; and the same poses with
+# limits blocks among them. Then tools/test/test_header.sh. Needs rt, cargo, a C and a C++ compiler and python3.
 #   tools/test/examples.sh [COUNT]
 set -euo pipefail
 cd "$(dirname "$0")/../.."
@@ -33,6 +33,11 @@ cmp "$log/program" "$log/rust"
 target/examples/solve_c inside | cmp "$log/inside" -
 target/examples/solve_rust inside | cmp "$log/inside" -
 echo "degrees: $(wc -l <"$log/program") answers, $(wc -l <"$log/inside") inside the limits, C and Rust as the program"
+# On a turntable the same arm has the same answers behind the locked angle, and each makes the pose.
+sed 's/^/   50.0000/; s/$/  makes the pose/' "$log/program" >"$log/track"
+target/examples/track_c | cmp "$log/track" -
+target/examples/solve_rust track | cmp "$log/track" -
+echo "on a turntable: $(wc -l <"$log/track") answers, C and Rust as the program, and each makes the pose"
 
 # The lines of the program and of both examples for the blocks in a file, each input in a process of its
 # own, for it may end in a short block.

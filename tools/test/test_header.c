@@ -592,8 +592,19 @@ static void track_handed_on(int joint)
     for (double size = 1e-150; size < 1e151; size *= 1e10) {
         make_track(joint);
         axis[2] = size;
-        check(locked((uint64_t)joint, LOCKED) == 0 && counts[0] == 8 && flags[0] == 0, "track: a locked axis of any length");
+        check(locked((uint64_t)joint, LOCKED) == 0 && counts[0] == 8 && flags[0] == 0,
+              "track: a locked axis of any length");
     }
+    /* As if the joint stood at zero, but for the angle that comes back. */
+    double unturned[7];
+    make_track(joint);
+    check(locked((uint64_t)joint, 0) == 0 && counts[0] > 0, "track: locked at zero");
+    memcpy(unturned, angles, sizeof unturned);
+    unturned[joint] = LOCKED;
+    axis[2] = 1e155;
+    check(locked((uint64_t)joint, LOCKED) == 0 && counts[0] > 0, "track: a locked axis of a huge length");
+    for (int i = 0; i < 7; i++)
+        check(fabs(angles[i] - unturned[i]) < 1e-9, "track: a locked axis of a huge length turns nothing");
     make_track(joint);
     track[21 + 3 * joint] = DBL_MAX, track[21 + 3 * joint + 3] = DBL_MAX;
     check(locked((uint64_t)joint, LOCKED) == 8 && none(), "track: an offset that overflows");

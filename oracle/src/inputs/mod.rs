@@ -9,7 +9,7 @@ mod vectors;
 use crate::{
     arith::Rules,
     arms::{random_axis, realistic},
-    functions::{Function, Group, Kind},
+    functions::{Function, Group, Kind, JOINT_WORD},
     generate,
     linalg::{Matrix3, Vector3},
     odd::{odd, spoil},
@@ -30,7 +30,15 @@ pub fn arguments(function: &Function, rng: &mut Rng) -> Vec<u64> {
         1 => structured(function, rng),
         _ => hostile(function, rng),
     };
-    bits(&numbers)
+    with_joint(function, bits(&numbers), rng)
+}
+
+/// The words with a joint where one is wanted: it is no number like the others.
+fn with_joint(function: &Function, mut words: Vec<u64>, rng: &mut Rng) -> Vec<u64> {
+    if function.group == Group::Track {
+        words[JOINT_WORD] = rng.below(7) as u64;
+    }
+    words
 }
 
 /// Argument words for a timed run: what the function meets in the solvers.
@@ -44,7 +52,7 @@ pub fn typical(function: &Function, seed: u64, place: u64, n: Option<u64>) -> Ve
         _ if function.shape == [Kind::Triples] => subproblems::triples(rng),
         Group::Subproblems => bits(&subproblems::solvable(function.id, rng)),
         Group::Polynomial => bits(&polynomials::structured(function.id, rng)),
-        _ => bits(&ordinary(function, rng)),
+        _ => with_joint(function, bits(&ordinary(function, rng)), rng),
     }
 }
 
@@ -106,7 +114,9 @@ fn structured(function: &Function, rng: &mut Rng) -> Vec<f64> {
         Group::Complex => scalars::complex(function, rng),
         Group::Polynomial => polynomials::structured(function.id, rng),
         Group::Subproblems => subproblems::structured(function, rng),
-        Group::Linear | Group::Kinematics | Group::Families => vectors::shaped(function, rng),
+        Group::Linear | Group::Kinematics | Group::Families | Group::Track => {
+            vectors::shaped(function, rng)
+        }
     }
 }
 

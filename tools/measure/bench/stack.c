@@ -1,8 +1,9 @@
 /*
  * The most stack that a solve uses: each block of standard input is solved in a thread whose stack
- * was filled with a pattern, and what is left of the pattern is counted: once without limits, and once
- * with limits that every answer but a NaN is inside of. What a thread uses that solves nothing is taken
- * off. Prints, for each family, the number of blocks and the most bytes.
+ * was filled with a pattern, and what is left of the pattern is counted: once without limits, once
+ * with limits that every answer but a NaN is inside of, and once as an arm of seven axes whose first joint
+ * is locked. What a thread uses that solves nothing is taken off. Prints, for each family, the number of
+ * blocks and the most bytes, of the first two and of the third.
  */
 #define _GNU_SOURCE
 #include <pthread.h>
@@ -18,7 +19,7 @@
 #define PATTERN 0xa5
 #define ROOM 1024
 
-static double angles[6 * ROOM];
+static double angles[7 * ROOM];
 static uint8_t flags[ROOM];
 static uint64_t counts[2];
 static uint8_t block[SAIHKEB_BLOCK];
@@ -40,6 +41,17 @@ static void *solve(void *argument)
 static void *solve_limited(void *argument)
 {
     saihkeb_solve_block(block, sizeof block, wide, SAIHKEB_LIMITS, angles, 6 * ROOM, flags, ROOM, counts);
+    return argument;
+}
+
+static void *solve_track(void *argument)
+{
+    double arm[SAIHKEB_TRACK_ARM] = {0, 0, 1};
+    memcpy(arm + 3, block + 8, 18 * sizeof *arm);
+    memcpy(arm + 24, block + 8 + 8 * 18, 21 * sizeof *arm);
+    memcpy(pose, block + 8 + 8 * SAIHKEB_ARM, sizeof pose);
+    saihkeb_solve_track(block[0], block[1] | (uint64_t)block[2] << 8, arm, SAIHKEB_TRACK_ARM, 0, 0.5, pose,
+                        SAIHKEB_POSE, angles, 7 * ROOM, flags, ROOM, counts);
     return argument;
 }
 
@@ -74,7 +86,7 @@ static size_t used(void *(*run)(void *))
 
 int main(void)
 {
-    size_t most[256] = {0}, blocks[256] = {0}, most_forward = 0, least = used(nothing);
+    size_t most[256] = {0}, most_track[256] = {0}, blocks[256] = {0}, most_forward = 0, least = used(nothing);
     while (fread(block, 1, sizeof block, stdin) == sizeof block) {
         size_t here = used(solve) - least, limited = used(solve_limited) - least;
         blocks[block[0]]++;
@@ -82,12 +94,16 @@ int main(void)
             most[block[0]] = here;
         if (limited > most[block[0]])
             most[block[0]] = limited;
+        here = used(solve_track) - least;
+        if (here > most_track[block[0]])
+            most_track[block[0]] = here;
         here = used(forward) - least;
         if (here > most_forward)
             most_forward = here;
     }
     for (int family = 1; family <= 6; family++)
-        printf("family %d: %zu blocks, at most %zu bytes\n", family, blocks[family], most[family]);
+        printf("family %d: %zu blocks, at most %zu bytes; with seven axes %zu\n", family, blocks[family], most[family],
+               most_track[family]);
     printf("forward kinematics: at most %zu bytes\n", most_forward);
     return 0;
 }
