@@ -446,13 +446,11 @@ def judge_n(sheet, last):
 
 
 def judge_lock(sheet):
-    """An arm of seven axes has a lock above each pose and no limits, another one has no lock."""
+    """An arm of seven axes has a lock above each pose, another one has none."""
     if not sheet.seven():
         if sheet.locks:
             raise SheetError(sheet.locks[0].line, "lock is for an arm of seven axes, and this one has no h7 and no p7")
         return
-    if sheet.limits:
-        refuse_limits(sheet.limits[0].joints[0][0])
     for pose in sheet.poses:
         if not pose.lock:
             text = f"the arm has seven axes, and no line 'lock' stands above pose '{pose.name}'"
