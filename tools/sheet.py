@@ -1,5 +1,6 @@
 #!/usr/bin/env python3
-"""Solves a sheet: a text file with an arm, its joint limits and poses. Shows the joint angles in degrees.
+"""Solves a sheet: a text file with an arm, its joint limits or a locked joint, and poses. Shows the joint
+angles in degrees.
 
     tools/sheet.py [--lines] [--blocks FILE] [--program COMMAND] SHEET
 
@@ -23,6 +24,7 @@ the solver gets the nearest f64 of what is written. Lengths have any one unit.
                      axis 2, .. p6 from axis 6 to the tool
   limits LOW HIGH    joint limits in degrees: six such lines, joint 1 first, or none. They hold for the
                      poses below them, up to the next six; poses above the first have none (see below)
+  h7, p7, lock       for an arm of seven axes alone (see below)
   pose NAME          starts a pose; its name is for the table and may be left out. Then either
     row X Y Z          three times: the rotation by rows
     place X Y Z        where the tool is
@@ -43,6 +45,25 @@ is turned: limits of 90 and 270 remove an answer at -170, which stands where 190
 some last places beyond 180. So a joint without stops gets -200 and 200. The program compares in radians:
 each limit is converted as every angle of a sheet is, by Python's math.radians, and an answer that is shown
 at a limit may be beyond it in a later place than is shown.
+
+An arm of seven axes, an arm on a track for one, has h1 to h7 and p0 to p7, and one of its joints is locked:
+
+  lock JOINT ANGLE   the joint, 1 to 7, as h1 to h7 are counted (the library's call counts 0 to 6), and its
+                     angle in degrees. It holds for the poses below it, up to the next lock; every pose
+                     needs one above it
+  from angles A1 .. A7   takes seven angles then
+
+All seven joints turn. What is solved is the six-axis arm that is left: 'family', and the notes on standard
+error, are about that arm, with its axes and offsets counted from h1 and p0 anew. Each axis after the locked
+joint comes one place down, turned by the locked angle; so does each offset after the first one behind the
+locked joint; and that one, turned too, is added to the offset before the joint. The program gets this arm
+and the pose with the rotation R times the transpose of the locked joint's rotation; --lines and --blocks are
+of them. In the table the locked angle is back in its place, and each answer is held against its pose by the
+arm of seven axes. Limits do not apply to such an arm: a sheet that has both is refused. The sheet locks the
+joint itself, in Python's arithmetic; the library's call, saihkeb_solve_track, has a sine of its own. So the
+arm that is left may differ from the library's in last places, and by more if the locked angle is many turns
+from zero; and where last places decide (a straight wrist or elbow) answers may differ visibly. The table is
+for looking at; the controller's call is the library's.
 
 An answer is held against its pose here, and marked: 'MISSES the pose' where its own place is off by more
 than a millionth of the arm's size (the sum of the offsets' lengths) or its rotation by more than 0.0001
@@ -70,6 +91,8 @@ FAMILIES = {
 }
 AXES = [f"h{i}" for i in range(1, 7)]
 OFFSETS = [f"p{i}" for i in range(7)]
+# An arm of seven axes has these as well.
+AXIS_7, OFFSET_7 = "h7", "p7"
 
 # What each family's solver takes for granted of an arm, and does not look at. In family 1 h3 = -h2 does
 # as well.
@@ -81,6 +104,9 @@ NOT_PARALLEL = {1: [1, 4, 5], 2: [1, 4, 5], 3: [1, 2, 4, 5], 4: [1, 4, 5], 5: [1
 MUST_NOT_MEET = {3: [1, 2]}
 # The joint whose axis must not meet the next one where its zero puts the two in line with axis 2.
 HINGE = {5: 5, 6: 4}
+
+# Axes and zero offsets of a six-axis arm that a lock leaves: as far as this from a condition it counts as met.
+LEFT_SLACK = 1e-12
 
 # An answer misses its pose where its place is off by more than this part of the arm's size (the sum of
 # the offsets' lengths), or its rotation by more than so many degrees.
@@ -99,6 +125,7 @@ REFUSALS = {
     9: "there are more answers than the program has space for",
     10: "the limits are not 12 numbers, or one is infinite or not a number, or a low is above its high",
 }
+LEFT_NOT_FINITE = "a number of the six-axis arm that is left, or of its pose, is infinite or not a number"
 NUMBER = re.compile(r"[+-]?([0-9]+\.?[0-9]*|\.[0-9]+)([eE][+-]?[0-9]+)?")
 FLAGGED = "least squares"
 
@@ -127,14 +154,50 @@ class Limits:
 
 
 @dataclasses.dataclass
+class Lock:
+    """A line 'lock': a joint of an arm of seven axes, from 1, and its angle in degrees."""
+
+    line: int
+    joint: int
+    angle: float
+    closed: bool = False  # whether a pose stands below it
+
+    def rotation(self, arm):
+        return about(arm[f"h{self.joint}"], math.radians(self.angle))
+
+    def left(self, arm):
+        """The six-axis arm that is left of an arm of seven axes."""
+        before, r = self.joint - 1, self.rotation(arm)
+        axes = [arm[f"h{i}"] for i in range(1, 8)]
+        offsets = [arm[f"p{i}"] for i in range(8)]
+        axes = axes[:before] + [turned(r, h) for h in axes[before + 1 :]]
+        behind = [turned(r, p) for p in offsets[before + 1 :]]
+        joined = [x + y for x, y in zip(offsets[before], behind[0])]
+        return dict(zip(AXES + OFFSETS, axes + offsets[:before] + [joined] + behind[1:]))
+
+    def handed_on(self, arm, pose):
+        """The 12 numbers of the pose that the arm that is left has to make."""
+        back = [list(column) for column in zip(*self.rotation(arm))]
+        rotation = product([pose[0:3], pose[3:6], pose[6:9]], back)
+        return [x for row in rotation for x in row] + pose[9:]
+
+    def put_back(self, angles):
+        """Seven angles in radians, of the six of the arm that is left."""
+        before = self.joint - 1
+        return angles[:before] + [math.radians(self.angle)] + angles[before:]
+
+
+@dataclasses.dataclass
 class Pose:
     name: str
     line: int
     limits: Limits = None
+    lock: Lock = None
     rows: list = dataclasses.field(default_factory=list)
     rpy: list = None
     place: list = None
     angles: list = None
+    angles_line: int = None
 
 
 @dataclasses.dataclass
@@ -143,11 +206,19 @@ class Sheet:
     n: int = None
     arm: dict = dataclasses.field(default_factory=dict)
     limits: list = dataclasses.field(default_factory=list)
+    locks: list = dataclasses.field(default_factory=list)
     poses: list = dataclasses.field(default_factory=list)
     where: dict = dataclasses.field(default_factory=dict)  # the line of each word that may stand once
 
-    def arm_numbers(self):
-        return [x for name in AXES + OFFSETS for x in self.arm[name]]
+    def seven(self):
+        """Whether the arm has seven axes, as far as it is read."""
+        return AXIS_7 in self.arm or OFFSET_7 in self.arm
+
+    def axes(self):
+        return AXES + [AXIS_7] * self.seven()
+
+    def offsets(self):
+        return OFFSETS + [OFFSET_7] * self.seven()
 
     def pose_numbers(self, pose):
         """The rotation by rows, then the place."""
@@ -158,7 +229,10 @@ class Sheet:
         return [x for row in rotation for x in row] + place
 
     def pose_block(self, pose):
-        return blocks.make(self.family, self.n, self.arm_numbers(), self.pose_numbers(pose))
+        arm, wanted = self.arm, self.pose_numbers(pose)
+        if pose.lock:
+            arm, wanted = pose.lock.left(arm), pose.lock.handed_on(arm, wanted)
+        return blocks.make(self.family, self.n, arm_numbers(arm), wanted)
 
     def to_blocks(self):
         """The poses in their order, with a limits block wherever other limits begin to hold."""
@@ -172,6 +246,11 @@ class Sheet:
 
     def limited_poses(self):
         return [pose for pose in self.poses if pose.limits]
+
+
+def arm_numbers(arm):
+    """The 39 numbers of a six-axis arm."""
+    return [x for name in AXES + OFFSETS for x in arm[name]]
 
 
 # Small vectors and matrices: lists of numbers, and lists of rows.
@@ -201,12 +280,12 @@ def rotation_of_rpy(rpy):
 
 
 def forward(arm, angles):
-    """Rotation and place of the tool at these angles in radians."""
+    """Rotation and place of the tool at these six angles, or seven, in radians."""
     rotation = [[1.0, 0.0, 0.0], [0.0, 1.0, 0.0], [0.0, 0.0, 1.0]]
     place = list(arm["p0"])
-    for axis, offset, angle in zip(AXES, OFFSETS[1:], angles):
-        rotation = product(rotation, about(arm[axis], angle))
-        place = [x + y for x, y in zip(place, turned(rotation, arm[offset]))]
+    for joint, angle in enumerate(angles, 1):
+        rotation = product(rotation, about(arm[f"h{joint}"], angle))
+        place = [x + y for x, y in zip(place, turned(rotation, arm[f"p{joint}"]))]
     return rotation, place
 
 
@@ -250,12 +329,18 @@ def read_n(sheet, line, texts):
     sheet.n = whole(line, "n", texts)
 
 
+def refuse_limits(line):
+    raise SheetError(line, "limits do not apply to an arm of seven axes, of which a joint is locked")
+
+
 def read_limits(sheet, line, texts):
+    if sheet.locks or sheet.seven():
+        refuse_limits(line)
     if not sheet.limits or sheet.limits[-1].closed:
         sheet.limits.append(Limits())
     joints = sheet.limits[-1].joints
     if len(joints) == 6:
-        raise SheetError(line, "this is the seventh line 'limits', and there are six joints")
+        raise SheetError(line, "this is the seventh line 'limits', and limits are for arms of six joints")
     low, high = numbers(line, "limits", texts, 2)
     if low > high:
         raise SheetError(line, f"joint {len(joints) + 1}: low {texts[0]} is above high {texts[1]}")
@@ -267,6 +352,8 @@ def close_limits(sheet, last=None):
     if not sheet.limits:
         return None
     limits = sheet.limits[-1]
+    if sheet.locks or sheet.seven():
+        refuse_limits(limits.joints[0][0])
     if len(limits.joints) != 6:
         here = counted(len(limits.joints), "line", "lines")
         raise SheetError(limits.joints[-1][0], f"limits are six lines, joint 1 first, and here are {here}")
@@ -274,6 +361,28 @@ def close_limits(sheet, last=None):
         raise SheetError(last, "the sheet ends, and no pose stands below its last limits")
     limits.closed = True
     return limits
+
+
+def read_lock(sheet, line, texts):
+    if sheet.locks and not sheet.locks[-1].closed:
+        before = sheet.locks[-1].line
+        raise SheetError(line, f"lock stands on line {before} already, and no pose between: one joint is locked")
+    if len(texts) != 2:
+        raise SheetError(line, f"lock takes a joint and its angle in degrees, and here are {len(texts)} words")
+    if not re.fullmatch("[1-7]", texts[0]):
+        raise SheetError(line, f"lock takes a joint from 1 to 7, not '{texts[0]}'")
+    sheet.locks.append(Lock(line, int(texts[0]), number(line, texts[1])))
+
+
+def close_lock(sheet, last=None):
+    """Where a pose begins, or the sheet ends: the lock that holds from here on."""
+    if not sheet.locks:
+        return None
+    lock = sheet.locks[-1]
+    if last and not lock.closed:
+        raise SheetError(last, "the sheet ends, and no pose stands below its last lock")
+    lock.closed = True
+    return lock
 
 
 def read_pose_line(pose, line, word, texts):
@@ -285,26 +394,31 @@ def read_pose_line(pose, line, word, texts):
         return
     if word == "from":
         if texts[:1] != ["angles"]:
-            raise SheetError(line, "'from' is followed by 'angles' and six angles in degrees")
-        word, texts = "angles", texts[1:]
+            raise SheetError(line, "'from' is followed by 'angles' and the joint angles in degrees")
+        word, texts, pose.angles_line = "angles", texts[1:], line
     if getattr(pose, word) is not None:
         raise SheetError(line, f"this pose has '{word}' already")
-    setattr(pose, word, numbers(line, word, texts, 6 if word == "angles" else 3))
+    # How many angles an arm has is known at the end of the sheet.
+    setattr(pose, word, numbers(line, word, texts, len(texts) if word == "angles" else 3))
 
 
 def read_line(sheet, line, word, texts):
     if word == "pose":
         name = " ".join(texts) or f"number {len(sheet.poses) + 1}"
-        sheet.poses.append(Pose(name, line, close_limits(sheet)))
+        sheet.poses.append(Pose(name, line, close_limits(sheet), close_lock(sheet)))
     elif word in ("row", "rpy", "place", "from"):
         if not sheet.poses:
             raise SheetError(line, f"'{word}' belongs to a pose, and no line 'pose' stands above it")
         if sheet.limits and not sheet.limits[-1].closed:
             raise SheetError(line, f"'{word}' belongs to a pose, and limits stand between: limits go above 'pose'")
+        if sheet.locks and not sheet.locks[-1].closed:
+            raise SheetError(line, f"'{word}' belongs to a pose, and a lock stands between: lock goes above 'pose'")
         read_pose_line(sheet.poses[-1], line, word, texts)
     elif word == "limits":
         read_limits(sheet, line, texts)
-    elif word in ("family", "n") or word in AXES + OFFSETS:
+    elif word == "lock":
+        read_lock(sheet, line, texts)
+    elif word in ("family", "n", AXIS_7, OFFSET_7) or word in AXES + OFFSETS:
         if word in sheet.where:
             raise SheetError(line, f"{word} stands on line {sheet.where[word]} already")
         sheet.where[word] = line
@@ -331,8 +445,23 @@ def judge_n(sheet, last):
         raise SheetError(line, f"n is {sheet.n}, and must be 1 to 400")
 
 
-def judge_pose(pose):
-    """A pose has angles alone, or a place and just one sort of rotation."""
+def judge_lock(sheet):
+    """An arm of seven axes has a lock above each pose, another one has none."""
+    if not sheet.seven():
+        if sheet.locks:
+            raise SheetError(sheet.locks[0].line, "lock is for an arm of seven axes, and this one has no h7 and no p7")
+        return
+    for pose in sheet.poses:
+        if not pose.lock:
+            text = f"the arm has seven axes, and no line 'lock' stands above pose '{pose.name}'"
+            raise SheetError(pose.line, text)
+
+
+def judge_pose(pose, joints):
+    """A pose has angles alone, one for each joint, or a place and just one sort of rotation."""
+    if pose.angles is not None and len(pose.angles) != joints:
+        here = len(pose.angles)
+        raise SheetError(pose.angles_line, f"angles takes {joints} numbers, and here are {here}")
     others = pose.rows or pose.rpy or pose.place
     if pose.angles and others:
         raise SheetError(pose.line, f"pose '{pose.name}' has angles and a rotation or place: take one")
@@ -357,22 +486,26 @@ def parse(text):
             read_line(sheet, last, words[0].lower(), words[1:])
     if sheet.family is None:
         raise SheetError(last, "the sheet ends, and has no family")
-    missing = [name for name in AXES + OFFSETS if name not in sheet.arm]
+    missing = [name for name in sheet.axes() + sheet.offsets() if name not in sheet.arm]
     if missing:
-        raise SheetError(last, f"the sheet ends, and of the arm is missing: {', '.join(missing)}")
+        seven = " (h7 and p7 are for an arm of seven axes)" if sheet.seven() else ""
+        raise SheetError(last, f"the sheet ends, and of the arm is missing: {', '.join(missing)}{seven}")
     judge_n(sheet, last)
     if not sheet.poses:
         raise SheetError(last, "the sheet ends, and has no pose")
+    judge_lock(sheet)
     close_limits(sheet, last)
+    close_lock(sheet, last)
     for pose in sheet.poses:
-        judge_pose(pose)
+        judge_pose(pose, len(sheet.axes()))
     return sheet
 
 
 # Notes: things that the solver takes as they are, and that are most often a slip of the pen.
 
 
-def arm_notes(sheet):
+def arm_notes(sheet, slack=0):
+    """Parts that differ by no more than `slack`, of an offset times the arm's size, count as equal."""
     for name in AXES:
         length = math.hypot(*sheet.arm[name])
         if abs(length - 1) > 1e-9:
@@ -380,14 +513,22 @@ def arm_notes(sheet):
     equal = EQUAL_AXES.get(sheet.family, [])
     first = sheet.arm[equal[0]] if equal else None
     allowed = [first, [-x for x in first]] if sheet.family == 1 else [first]
-    if any(sheet.arm[name] not in allowed for name in equal):
+    if not all(any(near(sheet.arm[name], axis, slack) for axis in allowed) for name in equal):
         read = "is" if sheet.family == 6 else "are"
         unread = f"; {' and '.join(equal[1:])} {read} not read" if sheet.family != 1 else ""
         yield f"family {sheet.family} is for arms with {' = '.join(equal)}{unread}"
     for name in ZERO_OFFSETS.get(sheet.family, []):
-        if any(sheet.arm[name]):
+        if not near(sheet.arm[name], [0, 0, 0], slack and slack * arm_size(sheet)):
             unread = f"; {name} is not read" if sheet.family != 4 else ""
             yield f"family {sheet.family} is for arms with {name} = 0 0 0{unread}"
+
+
+def near(u, v, slack):
+    return all(abs(x - y) <= slack for x, y in zip(u, v))
+
+
+def arm_size(sheet):
+    return sum(math.hypot(*sheet.arm[name]) for name in sheet.offsets())
 
 
 def dot(u, v):
@@ -467,10 +608,23 @@ def limits_notes(sheet, limits):
                    f" a joint without stops gets -200 and 200")
 
 
+def lock_notes(sheet, lock):
+    """Notes on the six-axis arm that is left. It is computed here, so equal axes may differ in last places."""
+    left = Sheet(sheet.family, sheet.n, lock.left(sheet.arm))
+    if not all(map(math.isfinite, arm_numbers(left.arm))):
+        return  # refused
+    for note in [*arm_notes(left, LEFT_SLACK), *meeting_notes(left)]:
+        yield f"line {lock.line}: of the six-axis arm that is left, counted anew: {note}"
+
+
 def notes(sheet):
+    if sheet.seven():
+        of_arm = (note for lock in sheet.locks for note in lock_notes(sheet, lock))
+    else:
+        of_arm = (note for kind in (arm_notes, meeting_notes) for note in kind(sheet))
     of_limits = (note for limits in sheet.limits for note in limits_notes(sheet, limits))
     of_poses = (note for pose in sheet.poses for note in pose_notes(sheet, pose))
-    return [*arm_notes(sheet), *meeting_notes(sheet), *of_limits, *of_poses]
+    return [*of_arm, *of_limits, *of_poses]
 
 
 # Showing what the program printed.
@@ -481,7 +635,7 @@ class Result:
     refusal: int
     answers: int
     evaluations: int
-    angles: list  # of six angles in radians and a flag
+    angles: list  # of six angles in radians and a flag; seven where a joint is locked
 
 
 HEAD = re.compile(r"block (\d+) refusal (\d+) answers (\d+) evals (\d+)")
@@ -508,7 +662,17 @@ def read_results(lines, count):
     return results
 
 
+def put_back(poses, results):
+    """Where a joint is locked, its angle comes back into the answers."""
+    for pose, result in zip(poses, results):
+        if pose.lock:
+            result.angles = [(pose.lock.put_back(angles), flag) for angles, flag in result.angles]
+    return results
+
+
 def degrees(angle):
+    if abs(math.degrees(angle)) >= 1e5:
+        return f"{math.degrees(angle):.3e}"
     text = "NaN" if math.isnan(angle) else f"{math.degrees(angle):.4f}"
     return "0.0000" if text == "-0.0000" else text
 
@@ -528,8 +692,7 @@ def distance(sheet, pose, angles):
 
 def misses(sheet, away, turn):
     """What to say of an answer that is off by so much, or nothing where it makes the pose."""
-    size = sum(math.hypot(*sheet.arm[name]) for name in OFFSETS)
-    said = [f"{away:.2g} away"] if not away <= PLACE_OFF * size else []
+    said = [f"{away:.2g} away"] if not away <= PLACE_OFF * arm_size(sheet) else []
     said += [f"turned by {turn:.3g} degrees"] if not turn <= TURN_OFF else []
     return "MISSES the pose: " + ", ".join(said) if said else ""
 
@@ -577,7 +740,8 @@ def table(sheet, pose, place, result, free):
     """The lines of one pose. `free` is its result without limits, where it has limits."""
     head = f"Pose {place + 1}, {pose.name}: "
     if result.refusal not in (0, 9):
-        yield head + f"refused ({result.refusal}): {REFUSALS[result.refusal]}"
+        why = LEFT_NOT_FINITE if pose.lock and result.refusal == 8 else REFUSALS[result.refusal]
+        yield head + f"refused ({result.refusal}): {why}"
         return
     head += how_many(result, free)
     if sheet.family == 6:
@@ -586,7 +750,7 @@ def table(sheet, pose, place, result, free):
     if result.refusal == 9:
         yield f"  refused (9): {REFUSALS[9]}; the first {len(result.angles):,} are here"
     if result.angles:
-        names = "".join(f"{'q' + str(i):>11}" for i in range(1, 7))
+        names = "".join(f"{'q' + name[1]:>11}" for name in sheet.axes())
         yield f"{'':>6}{names}{'place off':>11}{'turn off':>10}"
     made = False
     for i, (angles, flag) in enumerate(result.angles):
@@ -615,12 +779,16 @@ def show(sheet, results, free):
     title = f"Family {sheet.family}, {FAMILIES[sheet.family]}"
     title += f", n = {sheet.n}" if sheet.family == 6 else ""
     yield f"{title}. Angles in degrees."
-    limits, free = None, iter(free)
+    limits, lock, free = None, None, iter(free)
     for place, (pose, result) in enumerate(zip(sheet.poses, results)):
         if pose.limits is not limits:
             limits = pose.limits
             yield ""
             yield from limits_table(limits)
+        if pose.lock is not lock:
+            lock = pose.lock
+            yield ""
+            yield f"Joint {lock.joint} locked at {lock.angle:.10g} degrees for the poses below."
         yield ""
         yield from table(sheet, pose, place, result, next(free) if limits else None)
     if any(result.angles for result in results):
@@ -628,6 +796,10 @@ def show(sheet, results, free):
         yield "place off, turn off: how far an answer's own pose is from the one asked for, in the"
         yield "sheet's unit and in degrees, as computed by this script. MISSES: the place is off by more"
         yield f"than a millionth of the arm's size, or the rotation by more than {TURN_OFF:g} degrees."
+    if sheet.seven():
+        yield ""
+        yield "The joint was locked by this script, and the library's call, saihkeb_solve_track, may differ"
+        yield "in last places; --help says more."
 
 
 # The command line.
@@ -678,7 +850,8 @@ def solve_without_limits(sheet, options):
 
 
 def tables(sheet, lines, options):
-    return show(sheet, read_results(lines, len(sheet.poses)), solve_without_limits(sheet, options))
+    results = put_back(sheet.poses, read_results(lines, len(sheet.poses)))
+    return show(sheet, results, solve_without_limits(sheet, options))
 
 
 def main(words):

@@ -56,6 +56,28 @@ limits -200 200
 """
 
 
+# The arm above on a turntable.
+ARM_7 = """family 1
+h1 0 0 1
+h2 0 0 1
+h3 0 1 0
+h4 0 1 0
+h5 0 0 1
+h6 0 1 0
+h7 0 0 1
+p0 0 0 0.2
+p1 0.5 0 0.6718
+p2 0 0.2435 0
+p3 0.4318 -0.0934 0
+p4 -0.0203 0 0.4331
+p5 0 0 0
+p6 0 0 0
+p7 0 0 0.0563
+"""
+ARM_7_LINES = len(ARM_7.splitlines())
+LOCK = "lock 1 30\n"
+
+
 def words(block):
     return struct.unpack("<64Q", block)
 
@@ -230,6 +252,108 @@ class ReadingLimits(unittest.TestCase):
         self.assertGreater(value, 1e200)
 
 
+def seven_of(arm, joint, radians, offset):
+    """An arm of seven axes that leaves the six-axis arm `arm` where this joint is locked at this angle: about
+    a slanted axis, with this offset behind it."""
+    before, axis = joint - 1, [0.48, -0.6, 0.64]
+    r = sheet.about(axis, radians)
+    back = [list(column) for column in zip(*r)]
+    axes, offsets = [arm[name] for name in sheet.AXES], [arm[name] for name in sheet.OFFSETS]
+    axes = axes[:before] + [axis] + [sheet.turned(back, h) for h in axes[before:]]
+    first = [x - y for x, y in zip(offsets[before], sheet.turned(r, offset))]
+    offsets = offsets[:before] + [first, offset] + [sheet.turned(back, p) for p in offsets[before + 1 :]]
+    return {f"h{i}": h for i, h in enumerate(axes, 1)} | {f"p{i}": p for i, p in enumerate(offsets)}
+
+
+class Locking(unittest.TestCase):
+    def far(self, one, other):
+        return max(abs(x - y) for x, y in zip(one, other, strict=True))
+
+    def test_the_columns_that_are_left(self):
+        """A quarter turn about z, each joint in its turn: which vectors are turned, and where they go."""
+        for joint in range(1, 8):
+            given = {f"h{i}": [float(i), 0.0, 10.0] for i in range(1, 8)}
+            given |= {f"p{i}": [float(i), 100.0, 0.0] for i in range(8)}
+            given[f"h{joint}"] = [0.0, 0.0, 2.0]
+            left = sheet.Lock(1, joint, 90.0).left(given)
+            wanted = {}
+            for i in range(1, 7):
+                wanted[f"h{i}"] = [i, 0, 10] if i < joint else [0, i + 1, 10]
+            for i in range(7):
+                as_it_is, turned = [i, 100, 0], [-100, i + 1, 0]
+                added = [x + y for x, y in zip(as_it_is, turned)]
+                wanted[f"p{i}"] = as_it_is if i < joint - 1 else added if i == joint - 1 else turned
+            self.assertEqual(list(left), sheet.AXES + sheet.OFFSETS)
+            for name, vector in wanted.items():
+                self.assertLess(self.far(left[name], vector), 1e-13, (joint, name))
+
+    def test_the_arm_that_is_left_makes_the_pose_handed_on(self):
+        for joint in range(1, 8):
+            arm = seven_of(trial.named("across"), joint, -2.1, [0.3, -0.2, 0.5])
+            lock = sheet.Lock(1, joint, math.degrees(-2.1))
+            self.assertLess(self.far(sheet.arm_numbers(lock.left(arm)), trial.numbers(trial.named("across"))), 1e-14)
+            six = [0.3, -1.2, 2.2, 0.7, -0.4, 3.0]
+            seven = lock.put_back(six)
+            self.assertEqual((len(seven), seven[joint - 1]), (7, math.radians(lock.angle)))
+            self.assertEqual(seven[: joint - 1] + seven[joint:], six)
+            wanted = trial.pose_of(arm, seven)
+            self.assertLess(self.far(lock.handed_on(arm, wanted), trial.pose_of(lock.left(arm), six)), 1e-14)
+
+    def test_blocks_of_the_arm_that_is_left(self):
+        made = sheet.parse(ARM_7 + LOCK + POSE)
+        block = made.to_blocks()
+        self.assertEqual(len(block), 512)
+        lock = made.poses[0].lock
+        self.assertEqual((lock.joint, lock.angle), (1, 30.0))
+        wanted = [1.0, 0.0, 0.0, 0.0, 1.0, 0.0, 0.0, 0.0, 1.0, 0.3, 0.2, 0.9]
+        self.assertEqual(block, blocks.make(1, 0, sheet.arm_numbers(lock.left(made.arm)),
+                                            lock.handed_on(made.arm, wanted)))
+        half, root = 0.5, math.sqrt(0.75)
+        self.assertLess(self.far(doubles(block)[40:52], (root, half, 0, -half, root, 0, 0, 0, 1, 0.3, 0.2, 0.9)), 1e-15)
+        self.assertLess(self.far(doubles(block)[19:22], (0.5 * root, 0.5 * half, 0.8718)), 1e-15)
+
+    def test_joint_7_drops_nothing_that_counts(self):
+        made = sheet.parse(ARM_7 + "lock 7 90\n" + POSE)
+        left = made.poses[0].lock.left(made.arm)
+        self.assertEqual([left[f"h{i}"] for i in range(1, 7)], [made.arm[f"h{i}"] for i in range(1, 7)])
+        self.assertEqual([left[f"p{i}"] for i in range(6)], [made.arm[f"p{i}"] for i in range(6)])
+        self.assertEqual(left["p6"], [0, 0, 0.0563])
+
+    def test_a_lock_holds_until_the_next(self):
+        made = sheet.parse(ARM_7 + LOCK + POSE + POSE + "LOCK 4 -12.5  # another\n" + POSE)
+        self.assertEqual([(p.lock.joint, p.lock.angle) for p in made.poses], [(1, 30), (1, 30), (4, -12.5)])
+        self.assertEqual(sheet.parse(LOCK + ARM_7 + POSE).to_blocks(), sheet.parse(ARM_7 + LOCK + POSE).to_blocks())
+
+    def test_from_seven_angles(self):
+        block = sheet.parse(ARM_7 + "lock 1 0\npose\nfrom angles 90 0 0 0 0 0 0\n")
+        wanted = block.pose_numbers(block.poses[0])
+        self.assertLess(self.far(wanted[9:], (-0.1501, 0.9115, 1.3612)), 1e-14)
+        self.assertLess(self.far(wanted[:9], (0, -1, 0, 1, 0, 0, 0, 0, 1)), 1e-15)
+
+    def lock_notes(self, text):
+        return sheet.notes(sheet.parse(text + POSE))
+
+    def test_notes_are_about_the_arm_that_is_left(self):
+        self.assertEqual(self.lock_notes(ARM_7 + LOCK), [])
+        begin = f"line {ARM_7_LINES + 1}: of the six-axis arm that is left, counted anew: "
+        found = self.lock_notes(ARM_7 + "lock 6 30\n")
+        self.assertEqual([note[: len(begin)] for note in found], [begin] * len(found))
+        self.assertIn(begin + "axes 1 and 2 are parallel, which is not for family 1", found)
+        found = self.lock_notes(ARM_7.replace("p6 0 0 0", "p6 0 0.1 0") + LOCK)
+        self.assertEqual(found, [begin + "family 1 is for arms with p5 = 0 0 0; p5 is not read"])
+        # An axis of another length: the locked one does no harm.
+        self.assertEqual(self.lock_notes(ARM_7.replace("h1 0 0 1", "h1 0 0 2") + LOCK), [])
+        found = self.lock_notes(ARM_7.replace("h7 0 0 1", "h7 0 0 2") + LOCK)
+        self.assertIn(begin + "h6 has length 2, not 1", found[0])
+
+    def test_last_places_are_no_note(self):
+        """Axes that a turn makes equal, a lock between them."""
+        for radians in (0.3, 1.9, -2.7):
+            arm = seven_of(trial.named("puma"), 3, radians, [0.3, -0.2, 0.5])
+            made = sheet.Sheet(1, 0, arm, locks=[sheet.Lock(1, 3, math.degrees(radians))])
+            self.assertEqual(sheet.notes(made), [])
+
+
 class Messages(unittest.TestCase):
     def refuses(self, text, line, *parts):
         with self.assertRaises(sheet.SheetError) as caught:
@@ -241,8 +365,8 @@ class Messages(unittest.TestCase):
 
     def test_unknown_word(self):
         self.refuses(ARM + "speed 3\n" + POSE, ARM_LINES + 1, "unknown word 'speed'")
-        self.refuses(ARM.replace("h6", "h7") + POSE, 7, "unknown word 'h7'")
-        self.refuses(ARM.replace("p6", "p7") + POSE, 14, "unknown word 'p7'")
+        self.refuses(ARM.replace("h6", "h8") + POSE, 7, "unknown word 'h8'")
+        self.refuses(ARM.replace("p6", "p8") + POSE, 14, "unknown word 'p8'")
 
     def test_wrong_count(self):
         self.refuses(ARM.replace("h2 0 1 0", "h2 0 1") + POSE, 3, "h2 takes 3 numbers, and here are 2")
@@ -323,6 +447,61 @@ class Messages(unittest.TestCase):
         self.refuses(ARM + torn, ARM_LINES + 9, "'row' belongs to a pose, and limits stand between")
         self.refuses(ARM + LIMITS, ARM_LINES + 6, "has no pose")
         self.refuses(ARM + LIMITS + "rpy 0 0 0\n", ARM_LINES + 7, "no line 'pose' stands above")
+
+    def test_a_bad_lock(self):
+        for bad, *said in (("lock", "lock takes a joint and its angle in degrees, and here are 0"),
+                           ("lock 1", "here are 1"),
+                           ("lock 1 30 40", "here are 3"),
+                           ("lock 0 30", "lock takes a joint from 1 to 7, not '0'"),
+                           ("lock 8 30", "not '8'"), ("lock -1 30", "not '-1'"), ("lock 1.0 30", "not '1.0'"),
+                           ("lock h1 30", "not 'h1'"), ("lock 11 30", "not '11'"), ("lock ٣ 30", "not '٣'"),
+                           ("lock 1 x", "'x' is not a number"), ("lock 1 nan", "'nan' is not a number"),
+                           ("lock 1 inf", "'inf' is not a number"), ("lock 1 1e999", "'1e999' is too large"),
+                           ("lock 1 30,5", "'30,5'", "a point, not a comma")):
+            self.refuses(ARM_7 + bad + "\n" + POSE, ARM_7_LINES + 1, *said)
+
+    def test_seven_axes_need_a_lock(self):
+        said = "the arm has seven axes, and no line 'lock' stands above pose 'first'"
+        self.refuses(ARM_7 + POSE, ARM_7_LINES + 1, said)
+        self.refuses(ARM_7 + POSE + LOCK + POSE, ARM_7_LINES + 1, said)
+
+    def test_a_lock_needs_seven_axes(self):
+        self.refuses(ARM + LOCK + POSE, ARM_LINES + 1, "lock is for an arm of seven axes", "no h7 and no p7")
+        self.refuses(ARM + LOCK + LIMITS + POSE, ARM_LINES + 2, "limits do not apply")
+
+    def test_half_of_a_seventh_axis(self):
+        for name, other in (("h7", "p7"), ("p7", "h7")):
+            text = "\n".join(line for line in ARM_7.splitlines() if not line.startswith(name)) + "\n"
+            said = f"of the arm is missing: {name} (h7 and p7 are for an arm of seven axes)"
+            self.refuses(text + LOCK + POSE, ARM_7_LINES + 5, said)
+        self.refuses(ARM_7 + "h7 0 0 1\n" + LOCK + POSE, ARM_7_LINES + 1, "h7 stands on line 8 already")
+
+    def test_limits_do_not_apply_to_seven_axes(self):
+        said = "limits do not apply to an arm of seven axes, of which a joint is locked"
+        for limits in (LIMITS, LIMITS + "limits 0 1\n", "limits 0 1\n"):
+            self.refuses(ARM_7 + LOCK + limits + POSE, ARM_7_LINES + 2, said)
+            self.refuses(ARM_7 + limits + LOCK + POSE, ARM_7_LINES + 1, said)
+            self.refuses(ARM_7 + LOCK + POSE + limits, ARM_7_LINES + 7, said)
+            self.refuses(ARM_7 + limits + POSE, ARM_7_LINES + 1, said)
+        for limits in (LIMITS, "limits 0 1\n"):
+            self.refuses(limits + ARM_7 + LOCK + POSE, 1, said)
+        self.refuses(LIMITS + "limits 0 1\n" + ARM_7 + LOCK + POSE, 7, "limits are for arms of six joints")
+
+    def test_a_lock_stands_above_a_pose(self):
+        last = ARM_7_LINES + 7
+        self.refuses(ARM_7 + LOCK + POSE + LOCK, last, "no pose stands below its last lock")
+        self.refuses(ARM_7 + LOCK + "lock 2 5\n" + POSE, ARM_7_LINES + 2,
+                     f"lock stands on line {ARM_7_LINES + 1} already", "one joint is locked")
+        torn = POSE.replace("row 1 0 0\n", "row 1 0 0\n" + LOCK)
+        self.refuses(ARM_7 + LOCK + torn, ARM_7_LINES + 5, "'row' belongs to a pose, and a lock stands between")
+
+    def test_angles_are_seven(self):
+        for count in (0, 1, 6, 8):
+            angles = " ".join("5" * count)
+            self.refuses(ARM_7 + LOCK + f"pose\nfrom angles {angles}\n", ARM_7_LINES + 3,
+                         f"angles takes 7 numbers, and here are {count}")
+        self.refuses(ARM + "pose\nfrom angles 1 2 3 4 5 6 7\n", ARM_LINES + 2, "angles takes 6", "are 7")
+        self.refuses(ARM + "pose\nfrom angles\n", ARM_LINES + 2, "angles takes 6", "are 0")
 
     def limits_notes(self, arm, **joints):
         """The notes of the limits of a sheet whose joints have no stops but those given."""
@@ -416,7 +595,8 @@ class Tables(unittest.TestCase):
         """`free` has the lines without limits, of the poses that have limits."""
         made = sheet.parse(text)
         without = sheet.read_results(free, len(made.limited_poses()))
-        return "\n".join(sheet.show(made, sheet.read_results(lines, len(made.poses)), without))
+        results = sheet.put_back(made.poses, sheet.read_results(lines, len(made.poses)))
+        return "\n".join(sheet.show(made, results, without))
 
     def test_answers(self):
         lines = ["block 0 refusal 0 answers 3 evals 0",
@@ -553,6 +733,35 @@ class Tables(unittest.TestCase):
         shown = self.shown(text, ["block 0 refusal 0 answers 0 evals 24646"], long)
         self.assertIn("the limits leave no answer of 1,432, 24,646 evaluations", shown)
         self.assertIn("Outside the limits at least 1,024 answers make it.", shown)
+
+    def test_a_locked_joint_has_its_column(self):
+        pose = "pose\nfrom angles 30 0 0 0 0 0 0\n"
+        lines = ["block 0 refusal 0 answers 2 evals 0", line([0.0] * 6, 0), line([0, 0, 0, 0, 0, math.pi / 2], 1),
+                 "block 1 refusal 0 answers 1 evals 0", line([math.radians(30), 0, 0, 0, 0, 0], 0)]
+        text = self.shown(ARM_7 + LOCK + pose + "lock 4 0\n" + pose, lines)
+        shown = text.splitlines()
+        self.assertEqual(shown[:5], ["Family 1, spherical_two_parallel. Angles in degrees.", "",
+                                     "Joint 1 locked at 30 degrees for the poses below.", "",
+                                     "Pose 1, number 1: 2 answers"])
+        self.assertEqual(shown[5].split(), [*(f"q{i}" for i in range(1, 8)), "place", "off", "turn", "off"])
+        self.assertEqual(shown[6].split()[1:8], ["30.0000"] + ["0.0000"] * 6)
+        self.assertNotIn("MISSES", shown[6])
+        self.assertTrue(shown[7].endswith("least squares; MISSES the pose: turned by 90 degrees"), shown[7])
+        self.assertEqual(shown[9], "Joint 4 locked at 0 degrees for the poses below.")
+        self.assertEqual(shown[13].split()[1:8], ["30.0000"] + ["0.0000"] * 6)
+        self.assertNotIn("MISSES", shown[13])
+        self.assertIn("saihkeb_solve_track", shown[-2])
+
+    def test_a_locked_axis_of_no_length(self):
+        text = ARM_7.replace("h1 0 0 1", "h1 0 0 0") + LOCK + POSE
+        self.assertIn("refused (8): a number of the six-axis arm that is left",
+                      self.shown(text, ["block 0 refusal 8 answers 0 evals 0"]))
+        self.assertEqual(sheet.notes(sheet.parse(text)), [])
+
+    def test_a_locked_angle_of_many_turns_keeps_the_columns(self):
+        lines = ["block 0 refusal 0 answers 1 evals 0", line([0.0] * 6, 0)]
+        row = self.shown(ARM_7 + "lock 1 -1e300\n" + POSE, lines).splitlines()[6]
+        self.assertEqual(row[:28], "     1-1.000e+300     0.0000")
 
     def test_lines_that_do_not_fit(self):
         good = "block 0 refusal 0 answers 0 evals 0"
@@ -714,6 +923,88 @@ class WithOracle(unittest.TestCase):
                 self.assertEqual(sheet.main(["--program", f"{ORACLE} blocks", file.name]), 0)
         self.assertNotIn("note:", err.getvalue())
         self.assertIn(shown + "\n\n", out.getvalue())
+
+    def locked(self, family):
+        """Sheets of one pose whose arm of seven axes leaves an arm of the generator, each joint locked in its
+        turn, with the seven angles that made the pose."""
+        made = parts(self.oracle("generate", "reachable", str(family), "9", "28", "100"))
+        own = self.oracle("angles", "reachable", str(family), "9", "28", "100").decode().splitlines()
+        for place, block in enumerate(made):
+            joint, radians = place % 7 + 1, 0.4 * place - 5.0
+            numbers = list(doubles(block))
+            six = dict(zip(sheet.AXES + sheet.OFFSETS, (numbers[i : i + 3] for i in range(1, 40, 3))))
+            arm = seven_of(six, joint, radians, [0.2, -0.1, 0.3])
+            lock = sheet.Lock(1, joint, math.degrees(radians))
+            angles = lock.put_back([struct.unpack(">d", bytes.fromhex(word))[0] for word in own[place].split()])
+            wanted = trial.pose_of(arm, angles)
+            pose = sheet.Pose("", 1, lock=lock, rows=[wanted[0:3], wanted[3:6], wanted[6:9]], place=wanted[9:])
+            yield sheet.Sheet(family, block[1] + 256 * block[2], arm, locks=[lock], poses=[pose]), angles
+
+    def answers(self, made):
+        lines = blocks.run(blocks.command(f"{ORACLE} blocks"), made.to_blocks())
+        result, = sheet.put_back(made.poses, sheet.read_results(lines, 1))
+        self.assertEqual(result.refusal, 0)
+        return result.angles
+
+    def test_locked_joints_of_every_family(self):
+        """The angles that made a pose come back, and unflagged answers make it by seven axes."""
+        poses = found = listed = 0
+        for family in range(1, 7):
+            for made, own in self.locked(family):
+                pose, = made.poses
+                unflagged = [seven for seven, flag in self.answers(made) if not flag]
+                for seven in unflagged:
+                    self.assertEqual(len(seven), 7)
+                    self.assertEqual(seven[pose.lock.joint - 1], math.radians(pose.lock.angle))
+                    self.assertEqual(sheet.misses(made, *sheet.distance(made, pose, seven)), "")
+                poses += 1
+                listed += len(unflagged)
+                found += any(trial.same(own, seven) for seven in unflagged)
+        self.assertEqual(poses, 168)
+        self.assertGreater(found, 160)
+        self.assertGreater(listed, 600)
+
+    def test_the_call_for_a_track(self):
+        """The reference program's own call gives the sheet's answers but for last places: the same lists."""
+        def bits(numbers):
+            return ",".join(struct.pack(">d", x).hex() for x in numbers)
+
+        compared = 0
+        for family in (1, 2, 3, 4):
+            sheets = [made for made, _ in self.locked(family)]
+            calls = ""
+            for made in sheets:
+                pose, = made.poses
+                lock = pose.lock
+                arm = bits(x for name in made.axes() + made.offsets() for x in made.arm[name])
+                calls += (f"solve_track {family} 0 {arm} {lock.joint - 1} {bits([math.radians(lock.angle)])}"
+                          f" {bits(made.pose_numbers(pose))} 56 8\n")
+            done = subprocess.run([ORACLE, "calls"], input=calls.encode(), capture_output=True, check=False)
+            if b"no call 'solve_track'" in done.stderr:
+                self.skipTest("the reference program has no call for an arm on a track")
+            lines = done.stdout.decode().splitlines()
+            self.assertEqual(len(lines), len(sheets))
+            for made, text in zip(sheets, lines):
+                said = text.split()
+                count, answers = int(said[6]), self.answers(made)
+                self.assertEqual(said[2:7], ["solve_track", "refusal", "0", "answers", str(len(answers))])
+                given = [struct.unpack(">d", bytes.fromhex(x))[0] for x in said[10].split(",")[: 7 * count]]
+                self.assertEqual(said[12].split(",")[:count], [str(int(flag)) for _, flag in answers])
+                for i, (seven, _) in enumerate(answers):
+                    self.assertTrue(trial.same(given[7 * i : 7 * i + 7], seven))
+                    compared += 1
+        self.assertGreater(compared, 400)
+
+    def test_the_track_of_readme(self):
+        """README shows the first table of example_track.sheet."""
+        readme = (blocks.ROOT / "README.md").read_text()
+        shown, = (box.strip("\n") for box in readme.split("```")[1::2] if box.startswith("\nJoint 1 locked"))
+        with contextlib.redirect_stderr(io.StringIO()) as err, contextlib.redirect_stdout(io.StringIO()) as out:
+            path = blocks.ROOT / "tools" / "example_track.sheet"
+            self.assertEqual(sheet.main(["--program", f"{ORACLE} blocks", str(path)]), 0)
+        self.assertNotIn("note:", err.getvalue())
+        self.assertIn(shown + "\n\n", out.getvalue())
+        self.assertNotIn("MISSES the pose", out.getvalue())
 
     def sheet_of(self, block):
         numbers = [repr(x) for x in doubles(block)]
