@@ -93,7 +93,6 @@ fn reduced_list<A: Arith>(
 }
 
 /// The call: an answer is seven angles, and refusal 9 counts sevens. There are no limits here.
-#[allow(clippy::too_many_arguments)]
 pub fn solve_track<A: Arith>(
     family: u64,
     n: u64,
