@@ -1,10 +1,13 @@
-// The library that a controller links: the solve call, the block call, the limits block, the track
-// call and forward kinematics for C and Rust (include/saihkeb.h is its manual). No call asks anything of its numbers or of its lists'
+// The library that a controller links: the solve call, the one-answer call, the block call, the
+// limits block, the track call and forward kinematics for C and Rust (include/saihkeb.h is its manual). No call asks anything of its numbers or of its lists'
 // lengths: each equals its definition on every input. A list is lent, so its pointer is never null;
 // the header's functions of the short names take a null pointer too.
+use one_answer::One;
 use solve::Solved;
 ghost use mathlib.Core.Path.{_≡_};
+ghost use mathlib.Core.List.{_∷_, []};
 ghost use lib.Seq.{sets};
+ghost use Rattle.answers.specs.Answer.{six, byte};
 ghost use Rattle.answers.specs.Rows.{room-of, written-of, flagged-of};
 ghost use Rattle.answers.specs.Written.{room, written, flagged};
 ghost use Rattle.solve.specs.Solve.{answers, solve};
@@ -13,7 +16,7 @@ ghost use Rattle.track.specs.Sevens.{sevens};
 ghost use Rattle.track.specs.Track.{track-answers, solve-track};
 ghost use Rattle.limits_block.specs.LimitsBlock.{limits-refusal, in-force};
 ghost use Rattle.forward.specs.Forward.{forward-refusal, forward-pose};
-ghost use Rattle.saihkeb.specs.Library.{counts-of};
+ghost use Rattle.saihkeb.specs.Library.{counts-of, Told};
 
 // The refusal as the result; the number of answers and of evaluations to the counts.
 fn report(s: Solved, counts: &mut [u64; 2]) -> u64
@@ -76,6 +79,43 @@ pub extern "C" fn saihkeb_limits_block_lent(block: &[u8], limits: &mut [f64; 12]
     ensures limits { λ _. ⌜ now (limits .exit) ≡ in-force (now (block .entry)) (now (limits .entry)) ⌝ }
 {
     limits_block::limits_block(block, limits)
+}
+
+// The answer of a one-answer call: its refusal as the result, its six angles and its flag.
+fn tell(one: One, angles: &mut [f64; 6], flag: &mut [u8; 1]) -> u64
+    ensures result { λ r. ⌜ r ≡ one .refusal ⌝ }
+    ensures angles { λ _. ⌜ now (angles .exit) ≡ six (one .answer) ⌝ }
+    ensures flag { λ _. ⌜ now (flag .exit) ≡ byte (one .answer) ∷ [] ⌝ }
+{
+    let q = one.answer;
+    angles[0] = q.q1;
+    angles[1] = q.q2;
+    angles[2] = q.q3;
+    angles[3] = q.q4;
+    angles[4] = q.q5;
+    angles[5] = q.q6;
+    flag[0] = if q.is_ls { 1 } else { 0 };
+    one.refusal
+}
+
+// One answer within the limits, or none. Which one is given is left open.
+#[no_mangle]
+pub extern "C" fn saihkeb_solve_one_lent(
+    family: u64,
+    n: u64,
+    arm: &[f64],
+    pose: &[f64],
+    limits: &[f64],
+    angles: &mut [f64; 6],
+    flag: &mut [u8; 1],
+) -> u64
+    ensures { λ r. ⌜ Told family n (now (arm .entry)) (now (pose .entry)) (now (limits .entry)) r (now (angles .exit)) (now (flag .exit)) ⌝ }
+{
+    tell(
+        one_answer::solve_one(family, n, arm, pose, limits),
+        angles,
+        flag,
+    )
 }
 
 // The track call: an arm of seven axes with one joint locked; an answer is seven angles.

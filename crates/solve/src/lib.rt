@@ -18,7 +18,7 @@ pub struct Solved {
 }
 
 // Refusals 10 and 4 to 8, the first that applies, or 0.
-fn refused(family: u64, n: u64, arm: &[f64], pose: &[f64], limits: &[f64]) -> u64
+pub fn refused(family: u64, n: u64, arm: &[f64], pose: &[f64], limits: &[f64]) -> u64
     ensures { λ r. ⌜ r ≡ refused family n (now (arm .entry)) (now (pose .entry)) (now (limits .entry)) ⌝ }
 {
     let ten = limits::refusal_10(limits);
