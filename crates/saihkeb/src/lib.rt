@@ -7,7 +7,7 @@ use solve::Solved;
 ghost use mathlib.Core.Path.{_≡_};
 ghost use mathlib.Core.List.{_∷_, []};
 ghost use lib.Seq.{sets};
-ghost use Rattle.answers.specs.Answer.{six, byte};
+ghost use Rattle.answers.specs.Answer.{six, flag, byte};
 ghost use Rattle.answers.specs.Rows.{room-of, written-of, flagged-of};
 ghost use Rattle.answers.specs.Written.{room, written, flagged};
 ghost use Rattle.solve.specs.Solve.{answers, solve};
@@ -81,11 +81,17 @@ pub extern "C" fn saihkeb_limits_block_lent(block: &[u8], limits: &mut [f64; 12]
     limits_block::limits_block(block, limits)
 }
 
+fn flag_of(is_ls: bool) -> u8
+    ensures { λ r. ⌜ r ≡ flag «is_ls» ⌝ }
+{
+    if is_ls { 1 } else { 0 }
+}
+
 // The answer of a one-answer call: its refusal as the result, its six angles and its flag.
 fn tell(one: One, angles: &mut [f64; 6], flag: &mut [u8; 1]) -> u64
     ensures result { λ r. ⌜ r ≡ one .refusal ⌝ }
-    ensures angles { λ _. ⌜ now (angles .exit) ≡ six (one .answer) ⌝ }
-    ensures flag { λ _. ⌜ now (flag .exit) ≡ byte (one .answer) ∷ [] ⌝ }
+    ensures angles { λ _. ⌜ now (angles .exit) ≡ sets (now (angles .entry)) 0 (six (one .answer)) ⌝ }
+    ensures flag { λ _. ⌜ now (flag .exit) ≡ sets (now (flag .entry)) 0 (byte (one .answer) ∷ []) ⌝ }
 {
     let q = one.answer;
     angles[0] = q.q1;
@@ -94,7 +100,7 @@ fn tell(one: One, angles: &mut [f64; 6], flag: &mut [u8; 1]) -> u64
     angles[3] = q.q4;
     angles[4] = q.q5;
     angles[5] = q.q6;
-    flag[0] = if q.is_ls { 1 } else { 0 };
+    flag[0] = flag_of(q.is_ls);
     one.refusal
 }
 
@@ -109,7 +115,7 @@ pub extern "C" fn saihkeb_solve_one_lent(
     angles: &mut [f64; 6],
     flag: &mut [u8; 1],
 ) -> u64
-    ensures { λ r. ⌜ Told family n (now (arm .entry)) (now (pose .entry)) (now (limits .entry)) r (now (angles .exit)) (now (flag .exit)) ⌝ }
+    ensures { λ r. ⌜ Told family n (now (arm .entry)) (now (pose .entry)) (now (limits .entry)) r (now (angles .entry)) (now (angles .exit)) (now (flag .entry)) (now (flag .exit)) ⌝ }
 {
     tell(
         one_answer::solve_one(family, n, arm, pose, limits),
