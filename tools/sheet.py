@@ -2,9 +2,10 @@
 """Solves a sheet: a text file with an arm, its joint limits or a locked joint, and poses. Shows the joint
 angles in degrees.
 
-    tools/sheet.py [--lines] [--blocks FILE] [--program COMMAND] SHEET
+    tools/sheet.py [--one | --lines] [--blocks FILE] [--program COMMAND] SHEET
 
   SHEET              the file to read; - is standard input
+  --one              show one answer of each pose, or that it has none; for an arm of six axes (see below)
   --lines            show the program's own lines instead of the tables
   --blocks FILE      write the blocks that the program is given to FILE, too
   --program COMMAND  the solver program with its arguments; else the environment variable IK_PROGRAM,
@@ -45,6 +46,13 @@ is turned: limits of 90 and 270 remove an answer at -170, which stands where 190
 some last places beyond 180. So a joint without stops gets -200 and 200. The program compares in radians:
 each limit is converted as every angle of a sheet is, by Python's math.radians, and an answer that is shown
 at a limit may be beyond it in a later place than is shown.
+
+One answer: with --one each pose shows a single answer within its limits, the first of the list that the
+program prints, or 'refused (12): no answer within the limits' and how many there are outside. The library's
+call, saihkeb_solve_one, gives one of the answers of the list too, and document 02 leaves open which; so the
+controller's may be another one of the list. It may be flagged, miss the pose or, without limits, be NaN, as
+any answer of a list may, while another one makes the pose: the table says how many do. The call has no
+refusal 9 and reports no evaluations, and it takes no arm of seven axes.
 
 An arm of seven axes, an arm on a track for one, has h1 to h7 and p0 to p7, and one of its joints is locked:
 
@@ -124,7 +132,10 @@ REFUSALS = {
     8: "a number of the arm or the pose is infinite or not a number",
     9: "there are more answers than the program has space for",
     10: "the limits are not 12 numbers, or one is infinite or not a number, or a low is above its high",
+    12: "no answer within the limits",  # of the one-answer call; the program prints an empty list
 }
+ONE_OF_SEVEN = ("--one is for an arm of six axes, and this one has seven: the library's one-answer call,"
+                " saihkeb_solve_one, locks no joint")
 LEFT_NOT_FINITE = "a number of the six-axis arm that is left, or of its pose, is infinite or not a number"
 NUMBER = re.compile(r"[+-]?([0-9]+\.?[0-9]*|\.[0-9]+)([eE][+-]?[0-9]+)?")
 FLAGGED = "least squares"
@@ -728,6 +739,16 @@ def how_many(result, free):
     return f"{answers}; the limits removed {f'{removed:,} of {free.answers:,}' if removed else 'none'}"
 
 
+def one_or_none(result, free):
+    """The same where one answer will do: an empty list is the refusal 12."""
+    if result.answers:
+        return "one answer within the limits" if free else "one answer"
+    if not free:
+        return "refused (12): no answer, and there are no limits"
+    outside = f"{free.answers:,} outside" if free.answers else "and none outside"
+    return f"refused (12): {REFUSALS[12]}, {outside}"
+
+
 def makers(sheet, pose, result):
     """How many answers of a result make the pose, in words; nothing where none does."""
     found = sum(answer_line(sheet, pose, 0, angles, flag)[1] for angles, flag in result.angles)
@@ -736,34 +757,39 @@ def makers(sheet, pose, result):
     return least + counted(found, "answer makes", "answers make") if found else ""
 
 
-def table(sheet, pose, place, result, free):
-    """The lines of one pose. `free` is its result without limits, where it has limits."""
+def verdict(sheet, pose, result, free, one):
+    """What to say where no answer that is shown makes the pose."""
+    none = "This one does not make the pose" if one else "None of these makes the pose"
+    for where, answers in (("Of the list", result if one else None), ("Outside the limits", free)):
+        found = makers(sheet, pose, answers) if answers else ""
+        if found:
+            return f"{none}. {where} {found} it." if result.angles else f"{where} {found} it."
+    return f"{none + ', which' if result.angles else 'This'} does not say that the pose is out of reach: README.md"
+
+
+def table(sheet, pose, place, result, free, one=False):
+    """The lines of one pose. `free` is its result without limits, where it has limits; `one`: with one answer."""
     head = f"Pose {place + 1}, {pose.name}: "
     if result.refusal not in (0, 9):
         why = LEFT_NOT_FINITE if pose.lock and result.refusal == 8 else REFUSALS[result.refusal]
         yield head + f"refused ({result.refusal}): {why}"
         return
-    head += how_many(result, free)
-    if sheet.family == 6:
+    head += one_or_none(result, free) if one else how_many(result, free)
+    if sheet.family == 6 and not one:
         head += f", {counted(result.evaluations, 'evaluation', 'evaluations')} of the search error"
     yield head
-    if result.refusal == 9:
+    if result.refusal == 9 and not one:
         yield f"  refused (9): {REFUSALS[9]}; the first {len(result.angles):,} are here"
     if result.angles:
         names = "".join(f"{'q' + name[1]:>11}" for name in sheet.axes())
         yield f"{'':>6}{names}{'place off':>11}{'turn off':>10}"
     made = False
-    for i, (angles, flag) in enumerate(result.angles):
+    for i, (angles, flag) in enumerate(result.angles[:1] if one else result.angles):
         line, makes = answer_line(sheet, pose, i + 1, angles, flag)
         made |= makes
         yield line
-    outside = makers(sheet, pose, free) if free and not made else ""
-    if outside:
-        none = "None of these makes the pose. " if result.angles else ""
-        yield f"  {none}Outside the limits {outside} it."
-    elif not made:
-        none = "None of these makes the pose, which" if result.angles else "This"
-        yield f"  {none} does not say that the pose is out of reach: README.md"
+    if not made:
+        yield "  " + verdict(sheet, pose, result, free, one)
 
 
 def limits_table(limits):
@@ -774,8 +800,8 @@ def limits_table(limits):
         yield f"{name:>6}" + "".join(f"{x:>11.4f}" if abs(x) < 1e5 else f"{x:>11.3e}" for x in ends)
 
 
-def show(sheet, results, free):
-    """The tables. `free` has the results without limits of the poses that have limits."""
+def show(sheet, results, free, one=False):
+    """The tables. `free` has the results without limits of the poses that have limits; `one`: one answer each."""
     title = f"Family {sheet.family}, {FAMILIES[sheet.family]}"
     title += f", n = {sheet.n}" if sheet.family == 6 else ""
     yield f"{title}. Angles in degrees."
@@ -790,12 +816,16 @@ def show(sheet, results, free):
             yield ""
             yield f"Joint {lock.joint} locked at {lock.angle:.10g} degrees for the poses below."
         yield ""
-        yield from table(sheet, pose, place, result, next(free) if limits else None)
+        yield from table(sheet, pose, place, result, next(free) if limits else None, one)
     if any(result.angles for result in results):
         yield ""
         yield "place off, turn off: how far an answer's own pose is from the one asked for, in the"
         yield "sheet's unit and in degrees, as computed by this script. MISSES: the place is off by more"
         yield f"than a millionth of the arm's size, or the rotation by more than {TURN_OFF:g} degrees."
+    if one:
+        yield ""
+        yield "One answer: the first of the list. The library's call, saihkeb_solve_one, gives one of the list,"
+        yield "and which one is left open; --help says more."
     if sheet.seven():
         yield ""
         yield "The joint was locked by this script, and the library's call, saihkeb_solve_track, may differ"
@@ -826,7 +856,9 @@ def arguments(words):
         sys.exit(0)
     parser = argparse.ArgumentParser(prog="tools/sheet.py", add_help=False, epilog="--help says more")
     parser.add_argument("sheet")
-    parser.add_argument("--lines", action="store_true")
+    what = parser.add_mutually_exclusive_group()
+    what.add_argument("--one", action="store_true")
+    what.add_argument("--lines", action="store_true")
     parser.add_argument("--blocks", metavar="FILE")
     parser.add_argument("--program", metavar="COMMAND")
     return parser.parse_args(words)
@@ -851,7 +883,7 @@ def solve_without_limits(sheet, options):
 
 def tables(sheet, lines, options):
     results = put_back(sheet.poses, read_results(lines, len(sheet.poses)))
-    return show(sheet, results, solve_without_limits(sheet, options))
+    return show(sheet, results, solve_without_limits(sheet, options), options.one)
 
 
 def main(words):
@@ -861,6 +893,8 @@ def main(words):
         sheet = parse(text)
     except SheetError as error:
         return fail(2, f"{options.sheet}, {error}")
+    if options.one and sheet.seven():
+        return fail(2, f"{options.sheet}: {ONE_OF_SEVEN}")
     for note in notes(sheet):
         print(f"note: {note}; the solver takes it as it is", file=sys.stderr)
     try:

@@ -591,12 +591,12 @@ def line(angles, flag):
 
 
 class Tables(unittest.TestCase):
-    def shown(self, text, lines, free=()):
+    def shown(self, text, lines, free=(), one=False):
         """`free` has the lines without limits, of the poses that have limits."""
         made = sheet.parse(text)
         without = sheet.read_results(free, len(made.limited_poses()))
         results = sheet.put_back(made.poses, sheet.read_results(lines, len(made.poses)))
-        return "\n".join(sheet.show(made, results, without))
+        return "\n".join(sheet.show(made, results, without, one))
 
     def test_answers(self):
         lines = ["block 0 refusal 0 answers 3 evals 0",
@@ -734,6 +734,64 @@ class Tables(unittest.TestCase):
         self.assertIn("the limits leave no answer of 1,432, 24,646 evaluations", shown)
         self.assertIn("Outside the limits at least 1,024 answers make it.", shown)
 
+    def one(self, inside, without=None, refusal=0, text=ARM):
+        """The lines of a pose at zero angles where one answer will do. The lists are of angles in degrees."""
+        lists = []
+        for rows in (inside, without or []):
+            answers = [line([math.radians(a) for a in row], 0) for row in rows]
+            lists.append([f"block 0 refusal {refusal} answers {len(rows)} evals 0", *answers])
+        limits = LIMITS if without is not None else ""
+        made = self.shown(text + limits + "pose\nfrom angles 0 0 0 0 0 0\n", lists[0],
+                          lists[1] if limits else (), True)
+        parts = made.split("\n\n")
+        self.assertIn("saihkeb_solve_one, gives one of the list,\nand which one is left open", parts[-1])
+        return parts[2 if limits else 1].splitlines()
+
+    def test_one_answer_is_the_first_of_the_list(self):
+        first, second = [0] * 6, [0, 0, 0, 0, 0, 360]
+        for inside, without in (([first, second], None), ([first, second], [second] * 8), ([first], [first])):
+            lines = self.one(inside, without)
+            head = "one answer within the limits" if without else "one answer"
+            self.assertEqual(lines[0], f"Pose 1, number 1: {head}")
+            self.assertEqual(len(lines), 3)
+            self.assertEqual(lines[2].split()[:7], ["1"] + ["0.0000"] * 6)
+
+    def test_no_answer_is_refusal_12(self):
+        makes, misses = [0] * 6, [90] + [0] * 5
+        begin = "Pose 1, number 1: refused (12): no answer"
+        verdict = "  This does not say that the pose is out of reach: README.md"
+        self.assertEqual(self.one([], [makes, makes, misses]),
+                         [f"{begin} within the limits, 3 outside", "  Outside the limits 2 answers make it."])
+        self.assertEqual(self.one([], [misses]), [f"{begin} within the limits, 1 outside", verdict])
+        self.assertEqual(self.one([], []), [f"{begin} within the limits, and none outside", verdict])
+        self.assertEqual(self.one([]), [f"{begin}, and there are no limits", verdict])
+
+    def test_one_answer_is_held_against_its_pose(self):
+        makes, misses, nan = [0] * 6, [90] + [0] * 5, [math.nan] * 6
+        none = "  This one does not make the pose"
+        for wrong, mark in ((misses, "MISSES the pose: "), (nan, "NO ANSWER: not a number")):
+            for without in (None, [wrong, makes, makes]):
+                lines = self.one([wrong, makes, wrong], without)
+                self.assertIn(mark, lines[2])
+                self.assertEqual(lines[3:], [f"{none}. Of the list 1 answer makes it."])
+        self.assertEqual(self.one([misses], [misses, makes])[3:], [f"{none}. Outside the limits 1 answer makes it."])
+        for without in (None, [misses, misses]):
+            self.assertEqual(self.one([misses, misses], without)[3:],
+                             [f"{none}, which does not say that the pose is out of reach: README.md"])
+
+    def test_one_answer_of_a_list_that_is_too_long(self):
+        """The call has no refusal 9, and reports no evaluations."""
+        lines = ["block 0 refusal 9 answers 1432 evals 24646"] + [line([0.0] * 6, 0)] * 1024
+        text = self.shown(ARM_6 + "pose\nfrom angles 0 0 0 0 0 0\n", lines, one=True)
+        self.assertIn("Pose 1, number 1: one answer\n", text)
+        self.assertNotIn("refused", text)
+        self.assertNotIn("evaluations", text)
+        self.assertEqual(text.count("0.0000     0.0000"), 3)
+
+    def test_other_refusals_come_before_12(self):
+        text = self.shown(ARM + POSE, ["block 0 refusal 8 answers 0 evals 0"], one=True)
+        self.assertIn(f"Pose 1, first: refused (8): {sheet.REFUSALS[8]}\n", text)
+
     def test_a_locked_joint_has_its_column(self):
         pose = "pose\nfrom angles 30 0 0 0 0 0 0\n"
         lines = ["block 0 refusal 0 answers 2 evals 0", line([0.0] * 6, 0), line([0, 0, 0, 0, 0, math.pi / 2], 1),
@@ -813,6 +871,21 @@ class CommandLine(unittest.TestCase):
             status, out, _ = self.run_sheet(ARM + POSE, "--blocks", path, "--lines", "--program", "echo it")
             self.assertEqual((status, out), (0, "it\n"))
             self.assertEqual(pathlib.Path(path).read_bytes(), sheet.parse(ARM + POSE).to_blocks())
+
+    def test_one_answer(self):
+        """The option takes the first of the list, and is refused for seven axes and beside --lines."""
+        answers = "\n".join(["block 0 refusal 0 answers 2 evals 0", line([0.25] * 6, 0), line([0.5] * 6, 0)])
+        status, out, _ = self.run_sheet(ARM + POSE, "--one", "--program", f"printf '{answers}\n'")
+        self.assertEqual(status, 0)
+        self.assertIn("Pose 1, first: one answer\n", out)
+        self.assertIn("14.3239", out)
+        self.assertNotIn("28.6479", out)
+        status, out, err = self.run_sheet(ARM_7 + LOCK + POSE, "--one", "--program", "/no/such/program")
+        self.assertEqual((status, out), (2, ""))
+        self.assertIn("a.sheet: --one is for an arm of six axes, and this one has seven", err)
+        status, _, err = self.run_sheet(ARM + POSE, "--one", "--lines")
+        self.assertEqual(status, 2)
+        self.assertIn("not allowed with", err)
 
     def test_a_bad_limit_ends_with_2(self):
         status, out, err = self.run_sheet(ARM + LIMITS.replace("45", "-180") + POSE)
@@ -923,6 +996,40 @@ class WithOracle(unittest.TestCase):
                 self.assertEqual(sheet.main(["--program", f"{ORACLE} blocks", file.name]), 0)
         self.assertNotIn("note:", err.getvalue())
         self.assertIn(shown + "\n\n", out.getvalue())
+
+    def test_the_call_for_one_answer(self):
+        """The reference program's own call: it refuses with 12 where the sheet does, and gives one of the list."""
+        def bits(numbers):
+            return ",".join(struct.pack(">d", x).hex() for x in numbers)
+
+        found = refused = 0
+        for family in range(1, 7):
+            blocks_made = parts(self.oracle("generate", "reachable", str(family), "9", "30", "25"))
+            made = [sheet.parse(self.sheet_of(block).replace("pose", LIMITS * (place % 3 > 0) + "pose"))
+                    for place, block in enumerate(blocks_made)]
+            calls = ""
+            for one in made:
+                pose, = one.poses
+                limits = bits(pose.limits.numbers()) if pose.limits else "-"
+                calls += f"solve_one {family} {one.n} {bits(sheet.arm_numbers(one.arm))} "
+                calls += f"{bits(one.pose_numbers(pose))} {limits}\n"
+            lines = self.oracle("calls", given=calls.encode()).decode().splitlines()
+            self.assertEqual(len(lines), len(made))
+            for one, text in zip(made, lines):
+                said = text.split()
+                program = blocks.command(f"{ORACLE} blocks")
+                result, = sheet.read_results(blocks.run(program, one.to_blocks()), 1)
+                free = result if one.poses[0].limits else None
+                head = next(sheet.table(one, one.poses[0], 0, result, free, True))
+                self.assertEqual("refused (12)" in head, said[4] == "12", head)
+                if said[4] == "12":
+                    refused += 1
+                    continue
+                self.assertEqual(said[2:5], ["solve_one", "refusal", "0"])
+                given = [struct.unpack(">d", bytes.fromhex(x))[0] for x in said[6].split(",")]
+                self.assertIn((given, said[8] == "1"), result.angles)
+                found += 1
+        self.assertGreater(min(found, refused), 10)
 
     def locked(self, family):
         """Sheets of one pose whose arm of seven axes leaves an arm of the generator, each joint locked in its
