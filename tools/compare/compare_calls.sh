@@ -15,7 +15,7 @@
 set -euo pipefail
 generator=generate-calls
 case ${1:-} in --*) generator=generate-${1#--}; shift ;; esac
-[ $# -ge 1 ] || { sed -n '2,15s/^# *//p' "$0" >&2; exit 2; }
+[ $# -ge 1 ] || { sed -n '2,14s/^# *//p' "$0" >&2; exit 2; }
 library=$([ -z "${SAIHKEB_LIBRARY:-}" ] || realpath "$SAIHKEB_LIBRARY")
 cd "$(dirname "$0")/../.."
 count=$1 seed=${2:-1}
