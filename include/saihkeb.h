@@ -89,9 +89,10 @@
  *   OPEN: do not build on it. It need not be the best of them: it may have flag 1 where another has flag 0,
  *   and without limits it may have a NaN where another has none; with limits it has no NaN. So the check
  *   above is due here as well, and where it fails, saihkeb_solve has the other answers.
- *   Refusal 12 is given exactly where that list is empty, and the input has no other fault. As an empty list
- *   it does not say that the arm can't reach the pose, and does not tell a pose without any answer from one whose
- *   answers are all outside the limits: without limits 12 means that there is no answer at all.
+ *   Refusal 12 is given exactly where that list is empty and nothing else is refused. It does not say whether
+ *   the limits removed every answer or there was none (call again without limits), nor that the arm can't
+ *   reach the pose, as an empty list does not. And a pose out of reach is 12 as a rule in families 3 and 6
+ *   alone: in the others it mostly has answers, flagged, and one of these is given with refusal 0.
  *   A REFUSAL WRITES ZEROS: the six angles become +0.0 and the flag 0, with every refusal, where the calls
  *   with lists leave these as they were. Six zeros are a position of the arm, too: look at the refusal first.
  *
