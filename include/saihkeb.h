@@ -83,6 +83,19 @@
  *     second time, with 2 pi taken from its two limits, and add 2 pi to its angle in each answer. For a
  *     low below -PI it is the other way round.
  *
+ * ONE ANSWER
+ *   saihkeb_solve_one gives a single answer, six angles and a flag, where one will do: no list, no count and no
+ *   room to make. It is one of the answers that saihkeb_solve gives with the same limits. WHICH ONE IS LEFT
+ *   OPEN: do not build on it. It need not be the best of them: it may have flag 1 where another has flag 0,
+ *   and without limits it may have a NaN where another has none; with limits it has no NaN. So the check
+ *   above is due here as well, and where it fails, saihkeb_solve has the other answers.
+ *   Refusal 12 is given exactly where that list is empty and nothing else is refused. It does not say whether
+ *   the limits removed every answer or there was none (call again without limits), nor that the arm can't
+ *   reach the pose, as an empty list does not. And a pose out of reach is 12 as a rule in families 3 and 6
+ *   alone: in the others it mostly has answers, flagged, and one of these is given with refusal 0.
+ *   A REFUSAL WRITES ZEROS: the six angles become +0.0 and the flag 0, with every refusal, where the calls
+ *   with lists leave these as they were. Six zeros are a position of the arm, too: look at the refusal first.
+ *
  * SEVEN AXES
  *   saihkeb_solve_track solves an arm of seven axes, one of whose joints is locked: a six-axis arm on a
  *   turntable, or an arm with a joint to spare. It solves the six-axis arm that is left and puts the locked
@@ -120,10 +133,11 @@
  *   A list is a pointer and the number of its elements (not bytes). It may have any length, and
  *   each call judges the lengths. A null pointer is an empty list, whatever its length says. Else the
  *   pointer must be aligned for its type and lead to that many elements. What a call writes to must
- *   not overlap anything else that the same call is lent. counts, and the twelve numbers that
- *   saihkeb_limits_block writes, are never null. Every number may have any bits.
+ *   not overlap anything else that the same call is lent. counts, the twelve numbers that
+ *   saihkeb_limits_block writes, and the six angles and the flag of saihkeb_solve_one are never null. Every
+ *   number may have any bits.
  *
- * REFUSALS, the first that applies in this order: 10 comes before 4, and 11 before 7
+ * REFUSALS, the first that applies in this order: 10 comes before 4, 11 before 7, and 12 last
  *    0  none
  *    1  the block has fewer than 512 bytes                                        block calls
  *    2  word 63 of the block is not the sum of words 0 to 62 modulo 2^64          block calls
@@ -138,16 +152,18 @@
  *    8  a number of the arm or the pose is infinite or NaN; with seven axes also one of the arm that is
  *       left or of the rotation handed on
  *    9  there are more answers inside the limits than the angle list has whole sixes, or than the flag
- *       list has bytes; with seven axes, more answers than whole sevens or bytes
+ *       list has bytes; with seven axes, more answers than whole sevens or bytes   calls with lists
+ *   12  there is no answer, or with limits none that is inside                      one answer
  *   18  the angles are not 6 numbers                                               forward kinematics
  *
  * MEMORY AND TIME
- *   A solve takes up to 190 KB of stack, in every family: give the thread at least 256 KB (many
- *   systems give a thread 128 KB or less, and an overflow is not caught here). Measured, not proved:
- *   tools/measure/memory.sh. No heap, no file, no global data: a call uses its arguments and the stack
- *   alone, so calls in several threads do not meet, each with lists of its own. Every call ends, on
- *   every input: family 6 evaluates its error at most n + 1 + 3128 * n times. The floating-point unit
- *   has to round to nearest and to keep subnormals, as it does where nobody changed it.
+ *   A solve, for one answer too, takes up to 190 KB of stack, in every family: give the thread at least
+ *   256 KB (many systems give a thread 128 KB or less, and an overflow is not caught here). Measured, not
+ *   proved: tools/measure/memory.sh. No heap, no file, no global data: a call uses its arguments and the
+ *   stack alone, so calls in several threads do not meet, each with lists of its own. Every call ends, on
+ *   every input: family 6 evaluates its error at most n + 1 + 3128 * n times. One answer takes the time of
+ *   the whole list: in family 6 the search is made to its end. The floating-point unit has to round to
+ *   nearest and to keep subnormals, as it does where nobody changed it.
  *
  * The results are bit for bit those of the definitions in crates/ (specs/), for any input, but for the
  * bits of a NaN: a number is NaN where the definition's is, and which of the NaNs is open. That is
@@ -190,6 +206,11 @@ uint64_t saihkeb_solve_block_lent(const uint8_t *block, size_t block_len,
                                   uint64_t counts[2]);
 uint64_t saihkeb_limits_block_lent(const uint8_t *block, size_t block_len,
                                    double limits[SAIHKEB_LIMITS]);
+uint64_t saihkeb_solve_one_lent(uint64_t family, uint64_t n,
+                                const double *arm, size_t arm_len,
+                                const double *pose, size_t pose_len,
+                                const double *limits, size_t limits_len,
+                                double angles[SAIHKEB_ANGLES], uint8_t flag[1]);
 uint64_t saihkeb_solve_track_lent(uint64_t family, uint64_t n,
                                   const double *arm, size_t arm_len,
                                   uint64_t joint, double angle,
@@ -255,7 +276,7 @@ static inline uint64_t saihkeb_solve_block(const uint8_t *block, size_t block_le
 }
 
 /*
- * The numbers of a limits block of 512 bytes, for the two calls above: byte 3 of word 0 is 1, words 1 to
+ * The numbers of a limits block of 512 bytes, for every call that takes limits: byte 3 of word 0 is 1, words 1 to
  * 12 are low then high, joint by joint, 63 is the check; the other bytes of word 0 and words 13 to 62 are
  * zero. Bytes past the 512th are not read. Gives 0 and writes the twelve numbers, bit for bit; or 1, 2, 3
  * or 10, in this order, and leaves all twelve as they were. A pose block is 3 here.
@@ -265,6 +286,29 @@ static inline uint64_t saihkeb_limits_block(const uint8_t *block, size_t block_l
 {
     uint8_t no_block = 0;
     return saihkeb_limits_block_lent(block ? block : &no_block, block ? block_len : 0, limits);
+}
+
+/*
+ * Solves a pose and gives one answer of its list ("ONE ANSWER" above). Gives the refusal: 10, 4, 5, 6, 7, 8 or
+ * 12, the first that applies in this order, or 0. 9 is never given: no list is lent. limits is twelve numbers,
+ * or NULL, 0 for none.
+ *
+ * Refusal 0: the six angles are an answer that saihkeb_solve gives with the same limits, and flag[0] is its
+ * flag. Which answer of several it is, is left open.
+ * Any other: the six angles are +0.0 and flag[0] is 0.
+ * All six and the flag are always written.
+ */
+static inline uint64_t saihkeb_solve_one(uint64_t family, uint64_t n,
+                                         const double *arm, size_t arm_len,
+                                         const double *pose, size_t pose_len,
+                                         const double *limits, size_t limits_len,
+                                         double angles[SAIHKEB_ANGLES], uint8_t flag[1])
+{
+    double no_arm = 0, no_pose = 0, no_limit = 0;
+    return saihkeb_solve_one_lent(family, n,
+                                  arm ? arm : &no_arm, arm ? arm_len : 0,
+                                  pose ? pose : &no_pose, pose ? pose_len : 0,
+                                  limits ? limits : &no_limit, limits ? limits_len : 0, angles, flag);
 }
 
 /*

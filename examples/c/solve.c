@@ -3,6 +3,7 @@
  *
  *   solve          the pose below, in degrees
  *   solve inside   the same, with the answers inside the joint limits below alone
+ *   solve one      one answer inside these limits, which may be any of them
  *   solve block    that pose as a block of 512 bytes, which the program ik reads too
  *   solve limits   these limits as a limits block
  *   solve lines    blocks from standard input, limits blocks among them, and the program's lines for each
@@ -65,6 +66,26 @@ static int makes(const double q[SAIHKEB_ANGLES], const double pose[SAIHKEB_POSE]
     return 1;
 }
 
+static void print_answer(const double q[SAIHKEB_ANGLES], uint8_t flag, const double pose[SAIHKEB_POSE])
+{
+    for (unsigned j = 0; j < 6; j++)
+        printf("%10.4f", q[j] / DEGREE);
+    fputs(flag ? "  least squares" : "", stdout);
+    puts(makes(q, pose) ? "" : "  misses the pose");
+}
+
+/* One answer, and no list. Refused, 12 being none inside the limits, q is six zeros: no answer. */
+static int print_one(const double pose[SAIHKEB_POSE], const double *limits, size_t limits_len)
+{
+    double q[SAIHKEB_ANGLES];
+    uint8_t flag[1];
+    uint64_t refusal = saihkeb_solve_one(FAMILY, 0, arm, SAIHKEB_ARM, pose, SAIHKEB_POSE, limits, limits_len, q, flag);
+    if (refusal)
+        return refused(refusal);
+    print_answer(q, flag[0], pose);
+    return 0;
+}
+
 /* The limits are twelve numbers, or NULL, 0. */
 static int print_degrees(const double pose[SAIHKEB_POSE], const double *limits, size_t limits_len)
 {
@@ -73,12 +94,8 @@ static int print_degrees(const double pose[SAIHKEB_POSE], const double *limits, 
                                      angles, 6 * ROOM, flags, ROOM, counts);
     if (refusal)
         return refused(refusal);
-    for (uint64_t i = 0; i < counts[0]; i++) {
-        for (unsigned j = 0; j < 6; j++)
-            printf("%10.4f", angles[6 * i + j] / DEGREE);
-        fputs(flags[i] ? "  least squares" : "", stdout);
-        puts(makes(angles + 6 * i, pose) ? "" : "  misses the pose");
-    }
+    for (uint64_t i = 0; i < counts[0]; i++)
+        print_answer(angles + 6 * i, flags[i], pose);
     return 0;
 }
 
@@ -178,5 +195,7 @@ int main(int count, char **words)
         return write_pose_block(pose);
     if (!strcmp(what, "inside"))
         return print_degrees(pose, limits, SAIHKEB_LIMITS);
+    if (!strcmp(what, "one"))
+        return print_one(pose, limits, SAIHKEB_LIMITS);
     return print_degrees(pose, NULL, 0);
 }

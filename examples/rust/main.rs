@@ -3,6 +3,7 @@
 //!
 //!   solve          the pose below, in degrees
 //!   solve inside   the same, with the answers inside the joint limits below alone
+//!   solve one      one answer inside these limits, which may be any of them
 //!   solve track    the same arm on a turntable, which is locked (track.rs; in C examples/c/track.c)
 //!   solve lines    blocks from standard input, limits blocks among them, and the program's lines for each
 
@@ -43,21 +44,42 @@ fn makes(angles: &[f64], pose: &[f64; 12]) -> bool {
     at.iter().zip(pose).all(|(a, b)| (a - b).abs() <= NEAR)
 }
 
+fn print_answer(angles: &[f64], flag: u8, pose: &[f64; 12]) {
+    for angle in angles {
+        print!("{:10.4}", angle / DEGREE);
+    }
+    print!("{}", if flag == 1 { "  least squares" } else { "" });
+    let made = makes(angles, pose);
+    println!("{}", if made { "" } else { "  misses the pose" });
+}
+
+/// The pose of the taught angles.
+fn find_pose() -> [f64; 12] {
+    saihkeb::forward_kinematics(&ARM, &TAUGHT.map(|t| t * DEGREE))
+}
+
+fn refused(refusal: u64) -> io::Error {
+    io::Error::other(format!("refusal {refusal}"))
+}
+
+/// One answer, and no list. Refusal 12 is none inside the limits.
+fn one(limits: &[f64]) -> io::Result<()> {
+    let pose = find_pose();
+    let (angles, flag) = saihkeb::solve_one(FAMILY, 0, &ARM, &pose, limits).map_err(refused)?;
+    print_answer(&angles, flag, &pose);
+    Ok(())
+}
+
 /// The limits are twelve numbers or none.
 fn degrees(limits: &[f64]) -> io::Result<()> {
-    let pose = saihkeb::forward_kinematics(&ARM, &TAUGHT.map(|t| t * DEGREE));
+    let pose = find_pose();
     let (mut angles, mut flags) = ([0.0; 6 * ROOM], [0; ROOM]);
     let solved = saihkeb::solve(FAMILY, 0, &ARM, &pose, limits, &mut angles, &mut flags);
     if solved.refusal != 0 {
-        return Err(io::Error::other(format!("refusal {}", solved.refusal)));
+        return Err(refused(solved.refusal));
     }
     for i in 0..solved.answers as usize {
-        for angle in &angles[6 * i..6 * i + 6] {
-            print!("{:10.4}", angle / DEGREE);
-        }
-        print!("{}", if flags[i] == 1 { "  least squares" } else { "" });
-        let made = makes(&angles[6 * i..6 * i + 6], &pose);
-        println!("{}", if made { "" } else { "  misses the pose" });
+        print_answer(&angles[6 * i..6 * i + 6], flags[i], &pose);
     }
     Ok(())
 }
@@ -114,6 +136,7 @@ fn main() -> io::Result<()> {
         Some("lines") => lines(),
         Some("track") => track::degrees(),
         Some("inside") => degrees(&STOPS.map(|stop| stop * DEGREE)),
+        Some("one") => one(&STOPS.map(|stop| stop * DEGREE)),
         _ => degrees(&[]),
     }
 }

@@ -37,6 +37,18 @@ mod library {
             block_len: usize,
             limits: *mut [f64; 12],
         ) -> u64;
+        pub fn saihkeb_solve_one_lent(
+            family: u64,
+            n: u64,
+            arm: *const f64,
+            arm_len: usize,
+            pose: *const f64,
+            pose_len: usize,
+            limits: *const f64,
+            limits_len: usize,
+            angles: *mut [f64; 6],
+            flag: *mut [u8; 1],
+        ) -> u64;
         pub fn saihkeb_solve_track_lent(
             family: u64,
             n: u64,
@@ -130,6 +142,36 @@ pub fn limits_block(block: &[u8]) -> Result<[f64; 12], u64> {
         unsafe { library::saihkeb_limits_block_lent(block.as_ptr(), block.len(), &mut limits) };
     match refusal {
         0 => Ok(limits),
+        refusal => Err(refusal),
+    }
+}
+
+/// One answer of those that `solve` gives with the same limits, its six angles and its flag, or the refusal: 12
+/// where there is none. Which of several it is, is left open.
+pub fn solve_one(
+    family: u64,
+    n: u64,
+    arm: &[f64],
+    pose: &[f64],
+    limits: &[f64],
+) -> Result<([f64; 6], u8), u64> {
+    let (mut angles, mut flag) = ([0.0; 6], [0]);
+    let refusal = unsafe {
+        library::saihkeb_solve_one_lent(
+            family,
+            n,
+            arm.as_ptr(),
+            arm.len(),
+            pose.as_ptr(),
+            pose.len(),
+            limits.as_ptr(),
+            limits.len(),
+            &mut angles,
+            &mut flag,
+        )
+    };
+    match refusal {
+        0 => Ok((angles, flag[0])),
         refusal => Err(refusal),
     }
 }

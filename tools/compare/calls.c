@@ -313,6 +313,27 @@ static void solve_track(char **words)
     free(pose.at);
 }
 
+/* FAMILY N ARM POSE LIMITS */
+static void solve_one(char **words)
+{
+    struct numbers arm = numbers(words[3]), pose = numbers(words[4]), limits = numbers(words[5]);
+    struct numbers angles = lent_numbers(SAIHKEB_ANGLES);
+    struct bytes flag = lent_bytes(1);
+    uint64_t refusal = saihkeb_solve_one(whole(words[1]), whole(words[2]), pointer(arm), arm.count, pointer(pose),
+                                         pose.count, pointer(limits), limits.count, angles.at, flag.at);
+    printf("call %" PRIu64 " %s refusal %" PRIu64 " angles ", place, words[0], refusal);
+    print_numbers(angles);
+    fputs(" flag ", stdout);
+    print_bytes(flag);
+    puts(guards_stand(angles.at, angles.count, sizeof(double)) && guards_stand(flag.at, flag.count, 1)
+             ? "" : " OUTSIDE");
+    free(arm.at);
+    free(pose.at);
+    free(limits.at);
+    free_guarded(angles.at, sizeof(double));
+    free_guarded(flag.at, 1);
+}
+
 static const struct {
     const char *name;
     int words; /* of its line, the name among them */
@@ -322,6 +343,7 @@ static const struct {
     {"solve_block", 5, solve_block},
     {"limits_block", 2, limits_block},
     {"solve_track", 9, solve_track},
+    {"solve_one", 6, solve_one},
 };
 
 static void run_line(char *line)

@@ -1,17 +1,21 @@
 #!/usr/bin/env bash
 # Holds the library against the reference program, call by call: refusal, counts, and every element of the
 # lists that a call is lent, with arms, poses, limits, blocks and lists of any length.
-#   tools/compare/compare_calls.sh [--track] COUNT [SEED]
-# COUNT calls of `oracle generate-calls`, or with --track of `oracle generate-track` (an arm of seven axes with
-# one joint locked), good ones and ones with every fault; SEED is 1 unless given. tools/compare/calls.c makes them
-# from C with target/staticlib/libsaihkeb.a, which rt builds; the environment variable SAIHKEB_LIBRARY names
-# another library, and nothing is built then. Needs rt, cargo and a C compiler. Prints how often each call
-# gave which refusal, and how often each family, and each locked joint, was solved; exit status 1 where a
-# line differs.
+#   tools/compare/compare_calls.sh [--track | --one] COUNT [SEED]
+# COUNT calls of `oracle generate-calls`, with --track of `oracle generate-track` (an arm of seven axes with
+# one joint locked), or with --one of `oracle generate-one` (one answer), good ones and ones with every fault; SEED is
+# 1 unless given. tools/compare/calls.c makes them from C with target/staticlib/libsaihkeb.a, which rt builds; the
+# environment variable SAIHKEB_LIBRARY names another library, and nothing is built then. Needs rt, cargo and a C
+# compiler. Prints how often each call gave which refusal, and how often each family, and each locked joint, was
+# solved; exit status 1 where a line differs.
+# With --one: document 02 leaves open, until its request 6, which answer of the list is given. The reference
+# program gives the first, and so does the port: the two are held against each other bit for bit, which is
+# stricter than the document. Refusal 12 is told apart: where the pose has answers, all outside the limits, and
+# where it has none without limits either (the reference program's `solve` of the same call says which).
 set -euo pipefail
 generator=generate-calls
 case ${1:-} in --*) generator=generate-${1#--}; shift ;; esac
-[ $# -ge 1 ] || { sed -n '2,11s/^# *//p' "$0" >&2; exit 2; }
+[ $# -ge 1 ] || { sed -n '2,14s/^# *//p' "$0" >&2; exit 2; }
 library=$([ -z "${SAIHKEB_LIBRARY:-}" ] || realpath "$SAIHKEB_LIBRARY")
 cd "$(dirname "$0")/../.."
 count=$1 seed=${2:-1}
@@ -48,15 +52,21 @@ compare() { # SEED COUNT
         diff "$dir/want" "$dir/got" | head -n 4 | cut -c 1-400 >&2 || true
     fi
     echo "differ $differ" >>"$dir/sums"
-    awk '{ seen[$3 " " $5]++; if ($6 == "answers") answers += $7 }
+    awk '{ seen[$3 " " $5]++; answers += $6 == "answers" ? $7 : $3 == "solve_one" && $5 == 0 }
         END { for (key in seen) print key, seen[key]; print "answers", answers + 0 }' "$dir/want" >>"$dir/sums"
     # What was solved, refusal 0 or 9: the word of the call's line that has the family, or the locked joint.
     awk -v want="$dir/want" '
         { getline line < want; split(line, result)
           if (result[5] != 0 && result[5] != 9) next
-          if ($1 == "solve" || $1 == "solve_track") seen[$1 " family " $2]++
+          if ($1 ~ /^solve(_track|_one)?$/) seen[$1 " family " $2]++
           if ($1 == "solve_track") seen[$1 " joint " $5]++ }
         END { for (key in seen) print "solved", key, seen[key] }' "$dir/in" >>"$dir/sums"
+    # Refusal 12: the same call without limits, and without room, says how many answers there are.
+    awk -v want="$dir/want" '
+        { getline line < want; split(line, result)
+          if ($1 == "solve_one" && result[5] == 12) print "solve", $2, $3, $4, $5, "-", 0, 0 }' "$dir/in" |
+        "$oracle" calls | awk '$7 > 0 { outside++ } $7 == 0 { none++ }
+            END { print "empty", outside + 0, none + 0 }' >>"$dir/sums"
 }
 
 : >"$dir/sums"
@@ -75,6 +85,7 @@ sort "$dir/sums" | awk '
     }
     $1 == "differ" { differ += $2; next }
     $1 == "answers" { answers += $2; next }
+    $1 == "empty" { outside += $2; none += $3; next }
     $1 == "solved" { solved[$2, $3, $4] += $5; next }
     { if (!($1 in all)) names[++n] = $1; all[$1] += $3; seen[$1, $2] += $3; if ($2 > most) most = $2 }
     END {
@@ -85,6 +96,8 @@ sort "$dir/sums" | awk '
             list(names[i], "family")
             list(names[i], "joint")
         }
+        if (outside + none)
+            print "    refusal 12, by the list without limits: with answers: " outside ", empty: " none
         print answers + 0, "answers"
         print differ + 0, "lines differ"
         exit differ > 0 }'

@@ -1,7 +1,7 @@
 #!/usr/bin/env bash
 # Builds the C and the Rust examples and the program, and holds the examples' angles to the
-# program's: the degrees that they print for their own pose, without limits and inside theirs, and on a
-# turntable; every line of COUNT poses for each family and of blocks that are refused; and the same poses with
+# program's: the degrees that they print for their own pose, without limits and inside theirs, for one answer, and
+# on a turntable; every line of COUNT poses for each family and of blocks that are refused; and the same poses with
 # limits blocks among them. Then tools/test/test_header.sh. Needs rt, cargo, a C and a C++ compiler and python3.
 #   tools/test/examples.sh [COUNT]
 set -euo pipefail
@@ -33,6 +33,14 @@ cmp "$log/program" "$log/rust"
 target/examples/solve_c inside | cmp "$log/inside" -
 target/examples/solve_rust inside | cmp "$log/inside" -
 echo "degrees: $(wc -l <"$log/program") answers, $(wc -l <"$log/inside") inside the limits, C and Rust as the program"
+# The one answer is any of these.
+target/examples/solve_c one >"$log/one_c"
+target/examples/solve_rust one >"$log/one_rust"
+for one in "$log/one_c" "$log/one_rust"; do
+    [ "$(wc -l <"$one")" -eq 1 ]
+    grep -qxFf "$one" "$log/inside"
+done
+echo "one answer: C and Rust give one of the $(wc -l <"$log/inside") inside the limits"
 # On a turntable the same arm has the same answers behind the locked angle, and each makes the pose.
 sed 's/^/   50.0000/; s/$/  makes the pose/' "$log/program" >"$log/track"
 target/examples/track_c | cmp "$log/track" -

@@ -1,5 +1,6 @@
 /*
- * Tries what include/saihkeb.h says of lists, limits, refusals, seven axes and memory: C99, and C++ as well.
+ * Tries what include/saihkeb.h says of lists, limits, refusals, one answer, seven axes and memory: C99, and C++ as
+ * well.
  * tools/test/test_header.sh compiles it both ways and runs it. It prints what does not hold, and at the end
  * how many checks were made.
  */
@@ -233,6 +234,36 @@ static void good_limits(void)
           "the evaluations are those without limits");
 }
 
+/* One answer. What it is written to has a pattern before each call, with further elements around it. */
+static double one[SAIHKEB_ANGLES + 2];
+static uint8_t one_flag[3];
+
+static void clear_one(void)
+{
+    for (int i = 0; i < SAIHKEB_ANGLES + 2; i++)
+        one[i] = MARK;
+    memset(one_flag, 77, sizeof one_flag);
+}
+
+static uint64_t solve_one(uint64_t family, uint64_t n, const double *a, size_t arm_length, const double *p,
+                          size_t pose_length, const double *limits, size_t limits_length)
+{
+    clear_one();
+    return saihkeb_solve_one(family, n, a, arm_length, p, pose_length, limits, limits_length, one + 1, one_flag + 1);
+}
+
+static int around_one(void)
+{
+    return one[0] == MARK && one[SAIHKEB_ANGLES + 1] == MARK && one_flag[0] == 77 && one_flag[2] == 77;
+}
+
+/* Six times +0.0, by their bits, and flag 0. */
+static int zeros(void)
+{
+    const double zero[SAIHKEB_ANGLES] = {0};
+    return !memcmp(one + 1, zero, sizeof zero) && one_flag[1] == 0 && around_one();
+}
+
 /* An arm of family 5 whose axes 5 and 6 meet as the header says: every answer of this pose is NaN. */
 static void nans(void)
 {
@@ -249,6 +280,10 @@ static void nans(void)
     clear();
     check(saihkeb_solve(5, 0, meeting, SAIHKEB_ARM, at, SAIHKEB_POSE, widest, SAIHKEB_LIMITS, angles, 6 * ROOM, flags,
                         ROOM, counts) == 0 && counts[0] == 0 && kept(0), "a NaN is outside the widest limits");
+    check(solve_one(5, 0, meeting, SAIHKEB_ARM, at, SAIHKEB_POSE, NULL, 0) == 0 && isnan(one[1]) && around_one(),
+          "one: an answer that is NaN");
+    check(solve_one(5, 0, meeting, SAIHKEB_ARM, at, SAIHKEB_POSE, widest, SAIHKEB_LIMITS) == 12 && zeros(),
+          "one: a NaN is outside the widest limits");
 }
 
 static void put_check(uint8_t *block)
@@ -410,6 +445,193 @@ static void forward(void)
     check(saihkeb_forward_kinematics(arm, SAIHKEB_ARM, taught, 5, out, 11) == 6 && out[0] == MARK, "then 6");
     check(saihkeb_forward_kinematics(arm, SAIHKEB_ARM, taught, 5, out, SAIHKEB_POSE) == 18 && out[0] == MARK,
           "then 18");
+}
+
+/* Whether it is one of the answers that stand in the lists, with its flag. */
+static int member(void)
+{
+    for (uint64_t i = 0; i < counts[0]; i++)
+        if (!memcmp(angles + 6 * i, one + 1, 6 * sizeof *one) && flags[i] == one_flag[1])
+            return around_one();
+    return 0;
+}
+
+/* The whole arm and pose, as both calls see them. */
+static void one_as_list(uint64_t family, uint64_t n, const double *limits, size_t length)
+{
+    clear();
+    uint64_t refusal = saihkeb_solve(family, n, arm, SAIHKEB_ARM, pose, SAIHKEB_POSE, limits, length, angles,
+                                     6 * ROOM, flags, ROOM, counts);
+    uint64_t got = solve_one(family, n, arm, SAIHKEB_ARM, pose, SAIHKEB_POSE, limits, length);
+    check(refusal == 0 && got == (counts[0] ? 0 : 12), "one: 12 exactly if the list is empty");
+    check(got ? zeros() : member(), "one: an answer of the list, or zeros");
+}
+
+static void one_nulls(void)
+{
+    check(solve_one(1, 0, NULL, 0, NULL, 0, NULL, 0) == 5 && zeros(), "one: all lists NULL, 0");
+    check(solve_one(1, 0, NULL, SAIHKEB_ARM, pose, SAIHKEB_POSE, NULL, 0) == 5 && zeros(), "one: arm NULL");
+    check(solve_one(1, 0, arm, SAIHKEB_ARM, NULL, SAIHKEB_POSE, NULL, 0) == 6 && zeros(), "one: pose NULL");
+    solve(1, 0, arm, pose);
+    check(solve_one(1, 0, arm, SAIHKEB_ARM, pose, SAIHKEB_POSE, NULL, 0) == 0 && member(), "one: limits NULL, 0");
+    check(solve_one(1, 0, arm, SAIHKEB_ARM, pose, SAIHKEB_POSE, NULL, 11) == 0 && member(),
+          "one: limits NULL with a length");
+    check(solve_one(1, 0, arm, SAIHKEB_ARM, pose, SAIHKEB_POSE, arm, 0) == 0 && member(), "one: a list of no limits");
+}
+
+static void one_bad_limits(void)
+{
+    const double bad[] = {NAN, -NAN, INFINITY, -INFINITY};
+    double limits[2 * SAIHKEB_LIMITS];
+    make_wide(limits);
+    make_wide(limits + SAIHKEB_LIMITS);
+    for (size_t length = 1; length <= 2 * SAIHKEB_LIMITS; length++)
+        if (length != SAIHKEB_LIMITS)
+            check(solve_one(1, 0, arm, SAIHKEB_ARM, pose, SAIHKEB_POSE, limits, length) == 10 && zeros(),
+                  "one: limits of another length");
+    for (int i = 0; i < SAIHKEB_LIMITS; i++) {
+        for (int j = 0; j < 4; j++) {
+            limits[i] = bad[j];
+            check(solve_one(1, 0, arm, SAIHKEB_ARM, pose, SAIHKEB_POSE, limits, SAIHKEB_LIMITS) == 10 && zeros(),
+                  "one: a limit that is not finite");
+        }
+        limits[i] = i % 2 ? -4.5 : 4.5;
+        check(solve_one(1, 0, arm, SAIHKEB_ARM, pose, SAIHKEB_POSE, limits, SAIHKEB_LIMITS) == 10 && zeros(),
+              "one: a low above its high");
+        check(solve_one(9, 1, arm, 38, pose, 11, limits, SAIHKEB_LIMITS) == 10 && zeros(),
+              "one: 10 comes before 4, 5, 6 and 7");
+        make_wide(limits);
+    }
+}
+
+static void one_refusals(void)
+{
+    const uint64_t families[] = {0, 7, 256, 257, UINT64_C(1) << 32 | 1, UINT64_MAX};
+    const double bad[] = {NAN, -NAN, INFINITY, -INFINITY};
+    double limits[SAIHKEB_LIMITS], longer[SAIHKEB_ARM + 1] = {0}, off[SAIHKEB_POSE + 1] = {0};
+    make_wide(limits);
+    memcpy(longer, arm, sizeof arm);
+    memcpy(off, pose, sizeof pose);
+    for (size_t i = 0; i < sizeof families / sizeof *families; i++) {
+        check(solve_one(families[i], 0, arm, SAIHKEB_ARM, pose, SAIHKEB_POSE, NULL, 0) == 4 && zeros(),
+              "one: a family that there is not");
+        check(solve_one(families[i], 1, arm, 38, pose, 11, limits, SAIHKEB_LIMITS) == 4 && zeros(),
+              "one: 4 comes before 5, 6 and 7");
+    }
+    for (size_t length = 0; length <= SAIHKEB_ARM + 1; length++)
+        if (length != SAIHKEB_ARM)
+            check(solve_one(1, 1, longer, length, pose, 11, NULL, 0) == 5 && zeros(), "one: 5 comes before 6 and 7");
+    for (size_t length = 0; length <= SAIHKEB_POSE + 1; length++)
+        if (length != SAIHKEB_POSE)
+            check(solve_one(1, 1, arm, SAIHKEB_ARM, off, length, NULL, 0) == 6 && zeros(), "one: 6 comes before 7");
+    for (int i = 0; i < SAIHKEB_ARM; i++) {
+        longer[i] = bad[i % 4];
+        check(solve_one(1, 0, longer, SAIHKEB_ARM, pose, SAIHKEB_POSE, NULL, 0) == 8 && zeros(),
+              "one: an arm that is not finite");
+        check(solve_one(1, 1, longer, SAIHKEB_ARM, pose, SAIHKEB_POSE, NULL, 0) == 7 && zeros(),
+              "one: 7 comes before 8");
+        longer[i] = arm[i];
+    }
+    /* These limits have no answer inside, so that 12 would be given were it not the last. */
+    limits[0] = limits[1] = 3.9;
+    for (int i = 0; i < SAIHKEB_POSE; i++) {
+        off[i] = bad[i % 4];
+        check(solve_one(1, 0, arm, SAIHKEB_ARM, off, SAIHKEB_POSE, limits, SAIHKEB_LIMITS) == 8 && zeros(),
+              "one: 8 comes before 12");
+        off[i] = pose[i];
+    }
+    check(solve_one(1, 1, arm, SAIHKEB_ARM, pose, SAIHKEB_POSE, limits, SAIHKEB_LIMITS) == 7 && zeros(),
+          "one: 7 comes before 12");
+    check(solve_one(6, 0, arm, SAIHKEB_ARM, pose, SAIHKEB_POSE, NULL, 0) == 7 && zeros(), "one: family 6 with n = 0");
+    check(solve_one(6, 401, arm, SAIHKEB_ARM, pose, SAIHKEB_POSE, NULL, 0) == 7 && zeros(),
+          "one: family 6 with n = 401");
+}
+
+static void one_answers(void)
+{
+    double full[48], limits[SAIHKEB_LIMITS];
+    for (uint64_t family = 1; family <= 5; family++)
+        one_as_list(family, 0, NULL, 0);
+    one_as_list(6, 25, NULL, 0);
+    solve(1, 0, arm, pose);
+    memcpy(full, angles, sizeof full);
+    make_wide(limits);
+    one_as_list(1, 0, limits, SAIHKEB_LIMITS);
+    /* Both ends of a joint at an answer's own angle; one step more, and nothing is inside but by another answer. */
+    for (int own = 0; own < 8; own++)
+        for (int joint = 0; joint < 6; joint++) {
+            double at = full[6 * own + joint];
+            make_wide(limits);
+            limits[2 * joint] = limits[2 * joint + 1] = at;
+            one_as_list(1, 0, limits, SAIHKEB_LIMITS);
+            check(one[1 + joint] == at, "one: an answer's own angle for both ends");
+            limits[2 * joint] = limits[2 * joint + 1] = nextafter(at, 9);
+            one_as_list(1, 0, limits, SAIHKEB_LIMITS);
+            one_as_list(6, 7, limits, SAIHKEB_LIMITS);
+        }
+    /* Each answer alone inside: it is the one that is given. */
+    for (int own = 0; own < 8; own++) {
+        for (int i = 0; i < SAIHKEB_LIMITS; i++)
+            limits[i] = full[6 * own + i / 2];
+        check(solve_one(1, 0, arm, SAIHKEB_ARM, pose, SAIHKEB_POSE, limits, SAIHKEB_LIMITS) == 0
+                  && !memcmp(one + 1, full + 6 * own, 6 * sizeof *one) && around_one(), "one: the only one inside");
+    }
+}
+
+/* The arm and pose without limits and in wide ones: 12 with an empty list, and else an answer of it. */
+static void one_reach(uint64_t family, uint64_t n, const double *a, const double *p, int answers, const char *text)
+{
+    double limits[SAIHKEB_LIMITS];
+    make_wide(limits);
+    check(solve(family, n, a, p) == 0 && (counts[0] > 0) == answers, text);
+    check(solve_one(family, n, a, SAIHKEB_ARM, p, SAIHKEB_POSE, NULL, 0) == (answers ? 0 : 12), text);
+    check(answers ? member() : zeros(), text);
+    check(solve_one(family, n, a, SAIHKEB_ARM, p, SAIHKEB_POSE, limits, SAIHKEB_LIMITS) == (answers ? 0 : 12), text);
+    check(answers ? member() : zeros(), text);
+}
+
+/* 12 where the limits leave no answer, and where there is none without limits. */
+static void one_empty(void)
+{
+    /* Arms of family 3 and 6. */
+    static const double third[SAIHKEB_ARM] = {
+        0, 0, 1,   0, 1, 0,    0.6, 0, 0.8,  1, 0, 0,    0, 1, 0, 1, 0, 0,
+        0, 0, 0.3, 0.3, 0, 0.1, 0.1, 0.2, 0.5, 0.6, 0.1, 0.2, 0, 0, 0, 0, 0, 0, 0.2, 0, 0,
+    };
+    static const double sixth[SAIHKEB_ARM] = {
+        0, 0, 1,     0, 1, 0, 0, 1, 0,     1, 0, 0,       0, 1, 0,         1, 0, 0,
+        0, 0, 0.265, 0, 0, 0, 0, 0, 0.444, 0, 0.01, 0.11, 0.47, 0.03, 0.02, 0.101, 0.02, 0.08, 0.05, 0, 0,
+    };
+    double limits[SAIHKEB_LIMITS], at[SAIHKEB_POSE];
+    for (int joint = 0; joint < 6; joint++) {
+        make_wide(limits);
+        limits[2 * joint] = limits[2 * joint + 1] = 3.9;
+        check(limited(limits, SAIHKEB_LIMITS) == 0 && counts[0] == 0, "limits that exclude all");
+        check(solve_one(1, 0, arm, SAIHKEB_ARM, pose, SAIHKEB_POSE, limits, SAIHKEB_LIMITS) == 12 && zeros(),
+              "one: limits that exclude all");
+    }
+    saihkeb_forward_kinematics(third, SAIHKEB_ARM, taught, SAIHKEB_ANGLES, at, SAIHKEB_POSE);
+    one_reach(3, 0, third, at, 1, "one: family 3");
+    at[9] += 20;
+    one_reach(3, 0, third, at, 0, "one: family 3, out of reach");
+    saihkeb_forward_kinematics(sixth, SAIHKEB_ARM, taught, SAIHKEB_ANGLES, at, SAIHKEB_POSE);
+    one_reach(6, 25, sixth, at, 1, "one: family 6");
+    at[9] += 20;
+    one_reach(6, 25, sixth, at, 0, "one: family 6, out of reach");
+    /* In family 1 such a pose has answers, flagged. */
+    memcpy(at, pose, sizeof at);
+    at[9] += 20;
+    one_reach(1, 0, arm, at, 1, "one: family 1, out of reach");
+    check(one_flag[1] == 1, "one: family 1, out of reach: flagged");
+}
+
+static void ones(void)
+{
+    one_nulls();
+    one_bad_limits();
+    one_refusals();
+    one_answers();
+    one_empty();
 }
 
 /*
@@ -656,6 +878,8 @@ static void *every_family(void *unused)
 {
     for (uint64_t family = 1; family <= 6; family++) {
         check(solve(family, family == 6 ? 400 : 0, arm, pose) % 9 == 0, "a solve in a thread with 256 KB");
+        check(solve_one(family, family == 6 ? 400 : 0, arm, SAIHKEB_ARM, pose, SAIHKEB_POSE, NULL, 0) % 12 == 0,
+              "one: a solve in a thread with 256 KB");
         check(solve_track(family, family == 6 ? 400 : 0, 45, 6, LOCKED, 12) % 9 == 0,
               "track: a solve in a thread with 256 KB");
     }
@@ -685,6 +909,7 @@ int main(void)
     blocks_under_limits();
     limits_blocks();
     forward();
+    ones();
     tracks();
     rounding();
     thread();

@@ -1,9 +1,9 @@
 /*
  * The most stack that a solve uses: each block of standard input is solved in a thread whose stack
  * was filled with a pattern, and what is left of the pattern is counted: once without limits, once
- * with limits that every answer but a NaN is inside of, and once as an arm of seven axes whose first joint
- * is locked. What a thread uses that solves nothing is taken off. Prints, for each family, the number of
- * blocks and the most bytes, of the first two and of the third.
+ * with limits that every answer but a NaN is inside of, once for one answer inside these, and once as an arm of
+ * seven axes whose first joint is locked. What a thread uses that solves nothing is taken off. Prints, for each
+ * family, the number of blocks and the most bytes, of the first two, of the third and of the fourth.
  */
 #define _GNU_SOURCE
 #include <pthread.h>
@@ -41,6 +41,16 @@ static void *solve(void *argument)
 static void *solve_limited(void *argument)
 {
     saihkeb_solve_block(block, sizeof block, wide, SAIHKEB_LIMITS, angles, 6 * ROOM, flags, ROOM, counts);
+    return argument;
+}
+
+static void *solve_one(void *argument)
+{
+    double arm[SAIHKEB_ARM];
+    memcpy(arm, block + 8, sizeof arm);
+    memcpy(pose, block + 8 + 8 * SAIHKEB_ARM, sizeof pose);
+    saihkeb_solve_one(block[0], block[1] | (uint64_t)block[2] << 8, arm, SAIHKEB_ARM, pose, SAIHKEB_POSE, wide,
+                      SAIHKEB_LIMITS, angles, flags);
     return argument;
 }
 
@@ -86,7 +96,8 @@ static size_t used(void *(*run)(void *))
 
 int main(void)
 {
-    size_t most[256] = {0}, most_track[256] = {0}, blocks[256] = {0}, most_forward = 0, least = used(nothing);
+    size_t most[256] = {0}, most_one[256] = {0}, most_track[256] = {0}, blocks[256] = {0}, most_forward = 0;
+    size_t least = used(nothing);
     while (fread(block, 1, sizeof block, stdin) == sizeof block) {
         size_t here = used(solve) - least, limited = used(solve_limited) - least;
         blocks[block[0]]++;
@@ -94,6 +105,9 @@ int main(void)
             most[block[0]] = here;
         if (limited > most[block[0]])
             most[block[0]] = limited;
+        here = used(solve_one) - least;
+        if (here > most_one[block[0]])
+            most_one[block[0]] = here;
         here = used(solve_track) - least;
         if (here > most_track[block[0]])
             most_track[block[0]] = here;
@@ -102,8 +116,8 @@ int main(void)
             most_forward = here;
     }
     for (int family = 1; family <= 6; family++)
-        printf("family %d: %zu blocks, at most %zu bytes; with seven axes %zu\n", family, blocks[family], most[family],
-               most_track[family]);
+        printf("family %d: %zu blocks, at most %zu bytes; for one answer %zu; with seven axes %zu\n", family,
+               blocks[family], most[family], most_one[family], most_track[family]);
     printf("forward kinematics: at most %zu bytes\n", most_forward);
     return 0;
 }
