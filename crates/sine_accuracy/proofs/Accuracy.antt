@@ -17,7 +17,7 @@ use Rattle.sine_accuracy.proofs.Ops.{Val, plus, minus}
 use Rattle.sine_accuracy.proofs.Poly.{ev, minus-poly}
 use Rattle.sine_accuracy.proofs.Series.{sin-poly, cos-poly}
 use Rattle.sine_accuracy.proofs.Sums.{as-diff, sin-near, cos-near}
-use Rattle.sine_accuracy.proofs.Shift.{Within45, finish, neg-near, sin-up-0, sin-up-1, sin-up-2, sin-up-3, sin-down-1, sin-down-2, sin-down-3, cos-up-0, cos-up-1, cos-up-2, cos-up-3, cos-down-1, cos-down-2, cos-down-3}
+use Rattle.sine_accuracy.proofs.Shift.{InBound, finish, neg-near, sin-up-0, sin-up-1, sin-up-2, sin-up-3, sin-down-1, sin-down-2, sin-down-3, cos-up-0, cos-up-1, cos-up-2, cos-up-3, cos-down-1, cos-down-2, cos-down-3}
 use Rattle.sine_accuracy.proofs.Turn.{Held53, units-form, coarse, nearest-is, quotient, few-turns, above, below, Reached, reached, held-between}
 
 -- FRAC_PI_2 in units
@@ -25,61 +25,61 @@ abbrev N : ℕ
 N = 884279719003555 * 2 ^ 1025
 
 -- both functions
-pub record Both45 (x y : Float) (s : Bool) (X : ℕ) : Type 0 where
-  pub sine : Within45 x (ev (sin-poly 21) (as-diff s X))
-  pub cosine : Within45 y (ev (cos-poly 21) (as-diff s X))
+pub record BothInBound (x y : Float) (s : Bool) (X : ℕ) : Type 0 where
+  pub sine : InBound x (ev (sin-poly 21) (as-diff s X))
+  pub cosine : InBound y (ev (cos-poly 21) (as-diff s X))
 
 -- ---- by the number of quarter turns
-case-up-0 : (x : Float) (X : ℕ) → Reached (x ⊕ fin true 0 (pos 0)) false X (0 * N) → Both45 (sin-at (record { r = x ⊕ fin true 0 (pos 0); k = 0 })) (cos-at (record { r = x ⊕ fin true 0 (pos 0); k = 0 })) false X
+case-up-0 : (x : Float) (X : ℕ) → Reached (x ⊕ fin true 0 (pos 0)) false X (0 * N) → BothInBound (sin-at (record { r = x ⊕ fin true 0 (pos 0); k = 0 })) (cos-at (record { r = x ⊕ fin true 0 (pos 0); k = 0 })) false X
 unfolding sin-at cos-at pick
 case-up-0 x X k = record {
   sine = finish (sin-sum (x ⊕ fin true 0 (pos 0))) false (k .sign) X (k .units) (as-diff false (0 * N)) (sin-poly 21) (sin-poly 9) (k .small) (k .same) sin-up-0 (sin-near (x ⊕ fin true 0 (pos 0)) (k .sign) (k .units) (k .value) (k .small));
   cosine = finish (cos-sum (x ⊕ fin true 0 (pos 0))) false (k .sign) X (k .units) (as-diff false (0 * N)) (cos-poly 21) (cos-poly 9) (k .small) (k .same) cos-up-0 (cos-near (x ⊕ fin true 0 (pos 0)) (k .sign) (k .units) (k .value) (k .small));
 }
 
-case-up-1 : (x : Float) (X : ℕ) → Reached (x ⊕ fin true 884279719003555 (negsuc 48)) false X (1 * N) → Both45 (sin-at (record { r = x ⊕ fin true 884279719003555 (negsuc 48); k = 1 })) (cos-at (record { r = x ⊕ fin true 884279719003555 (negsuc 48); k = 1 })) false X
+case-up-1 : (x : Float) (X : ℕ) → Reached (x ⊕ fin true 884279719003555 (negsuc 48)) false X (1 * N) → BothInBound (sin-at (record { r = x ⊕ fin true 884279719003555 (negsuc 48); k = 1 })) (cos-at (record { r = x ⊕ fin true 884279719003555 (negsuc 48); k = 1 })) false X
 unfolding sin-at cos-at pick
 case-up-1 x X k = record {
   sine = finish (cos-sum (x ⊕ fin true 884279719003555 (negsuc 48))) false (k .sign) X (k .units) (as-diff false (1 * N)) (sin-poly 21) (cos-poly 9) (k .small) (k .same) sin-up-1 (cos-near (x ⊕ fin true 884279719003555 (negsuc 48)) (k .sign) (k .units) (k .value) (k .small));
   cosine = finish (neg (sin-sum (x ⊕ fin true 884279719003555 (negsuc 48)))) false (k .sign) X (k .units) (as-diff false (1 * N)) (cos-poly 21) (minus-poly (sin-poly 9)) (k .small) (k .same) cos-up-1 (neg-near (sin-sum (x ⊕ fin true 884279719003555 (negsuc 48))) (sin-poly 9) (as-diff (k .sign) (k .units)) (sin-near (x ⊕ fin true 884279719003555 (negsuc 48)) (k .sign) (k .units) (k .value) (k .small)));
 }
 
-case-up-2 : (x : Float) (X : ℕ) → Reached (x ⊕ fin true 884279719003555 (negsuc 47)) false X (2 * N) → Both45 (sin-at (record { r = x ⊕ fin true 884279719003555 (negsuc 47); k = 2 })) (cos-at (record { r = x ⊕ fin true 884279719003555 (negsuc 47); k = 2 })) false X
+case-up-2 : (x : Float) (X : ℕ) → Reached (x ⊕ fin true 884279719003555 (negsuc 47)) false X (2 * N) → BothInBound (sin-at (record { r = x ⊕ fin true 884279719003555 (negsuc 47); k = 2 })) (cos-at (record { r = x ⊕ fin true 884279719003555 (negsuc 47); k = 2 })) false X
 unfolding sin-at cos-at pick
 case-up-2 x X k = record {
   sine = finish (neg (sin-sum (x ⊕ fin true 884279719003555 (negsuc 47)))) false (k .sign) X (k .units) (as-diff false (2 * N)) (sin-poly 21) (minus-poly (sin-poly 9)) (k .small) (k .same) sin-up-2 (neg-near (sin-sum (x ⊕ fin true 884279719003555 (negsuc 47))) (sin-poly 9) (as-diff (k .sign) (k .units)) (sin-near (x ⊕ fin true 884279719003555 (negsuc 47)) (k .sign) (k .units) (k .value) (k .small)));
   cosine = finish (neg (cos-sum (x ⊕ fin true 884279719003555 (negsuc 47)))) false (k .sign) X (k .units) (as-diff false (2 * N)) (cos-poly 21) (minus-poly (cos-poly 9)) (k .small) (k .same) cos-up-2 (neg-near (cos-sum (x ⊕ fin true 884279719003555 (negsuc 47))) (cos-poly 9) (as-diff (k .sign) (k .units)) (cos-near (x ⊕ fin true 884279719003555 (negsuc 47)) (k .sign) (k .units) (k .value) (k .small)));
 }
 
-case-up-3 : (x : Float) (X : ℕ) → Reached (x ⊕ fin true 2652839157010665 (negsuc 48)) false X (3 * N) → Both45 (sin-at (record { r = x ⊕ fin true 2652839157010665 (negsuc 48); k = 3 })) (cos-at (record { r = x ⊕ fin true 2652839157010665 (negsuc 48); k = 3 })) false X
+case-up-3 : (x : Float) (X : ℕ) → Reached (x ⊕ fin true 2652839157010665 (negsuc 48)) false X (3 * N) → BothInBound (sin-at (record { r = x ⊕ fin true 2652839157010665 (negsuc 48); k = 3 })) (cos-at (record { r = x ⊕ fin true 2652839157010665 (negsuc 48); k = 3 })) false X
 unfolding sin-at cos-at pick
 case-up-3 x X k = record {
   sine = finish (neg (cos-sum (x ⊕ fin true 2652839157010665 (negsuc 48)))) false (k .sign) X (k .units) (as-diff false (3 * N)) (sin-poly 21) (minus-poly (cos-poly 9)) (k .small) (k .same) sin-up-3 (neg-near (cos-sum (x ⊕ fin true 2652839157010665 (negsuc 48))) (cos-poly 9) (as-diff (k .sign) (k .units)) (cos-near (x ⊕ fin true 2652839157010665 (negsuc 48)) (k .sign) (k .units) (k .value) (k .small)));
   cosine = finish (sin-sum (x ⊕ fin true 2652839157010665 (negsuc 48))) false (k .sign) X (k .units) (as-diff false (3 * N)) (cos-poly 21) (sin-poly 9) (k .small) (k .same) cos-up-3 (sin-near (x ⊕ fin true 2652839157010665 (negsuc 48)) (k .sign) (k .units) (k .value) (k .small));
 }
 
-case-down-0 : (x : Float) (X : ℕ) → Reached (x ⊕ fin true 0 (pos 0)) true X (0 * N) → Both45 (sin-at (record { r = x ⊕ fin true 0 (pos 0); k = 0 })) (cos-at (record { r = x ⊕ fin true 0 (pos 0); k = 0 })) true X
+case-down-0 : (x : Float) (X : ℕ) → Reached (x ⊕ fin true 0 (pos 0)) true X (0 * N) → BothInBound (sin-at (record { r = x ⊕ fin true 0 (pos 0); k = 0 })) (cos-at (record { r = x ⊕ fin true 0 (pos 0); k = 0 })) true X
 unfolding sin-at cos-at pick
 case-down-0 x X k = record {
   sine = finish (sin-sum (x ⊕ fin true 0 (pos 0))) true (k .sign) X (k .units) (as-diff true (0 * N)) (sin-poly 21) (sin-poly 9) (k .small) (k .same) sin-up-0 (sin-near (x ⊕ fin true 0 (pos 0)) (k .sign) (k .units) (k .value) (k .small));
   cosine = finish (cos-sum (x ⊕ fin true 0 (pos 0))) true (k .sign) X (k .units) (as-diff true (0 * N)) (cos-poly 21) (cos-poly 9) (k .small) (k .same) cos-up-0 (cos-near (x ⊕ fin true 0 (pos 0)) (k .sign) (k .units) (k .value) (k .small));
 }
 
-case-down-1 : (x : Float) (X : ℕ) → Reached (x ⊕ fin false 884279719003555 (negsuc 48)) true X (1 * N) → Both45 (sin-at (record { r = x ⊕ fin false 884279719003555 (negsuc 48); k = 3 })) (cos-at (record { r = x ⊕ fin false 884279719003555 (negsuc 48); k = 3 })) true X
+case-down-1 : (x : Float) (X : ℕ) → Reached (x ⊕ fin false 884279719003555 (negsuc 48)) true X (1 * N) → BothInBound (sin-at (record { r = x ⊕ fin false 884279719003555 (negsuc 48); k = 3 })) (cos-at (record { r = x ⊕ fin false 884279719003555 (negsuc 48); k = 3 })) true X
 unfolding sin-at cos-at pick
 case-down-1 x X k = record {
   sine = finish (neg (cos-sum (x ⊕ fin false 884279719003555 (negsuc 48)))) true (k .sign) X (k .units) (as-diff true (1 * N)) (sin-poly 21) (minus-poly (cos-poly 9)) (k .small) (k .same) sin-down-1 (neg-near (cos-sum (x ⊕ fin false 884279719003555 (negsuc 48))) (cos-poly 9) (as-diff (k .sign) (k .units)) (cos-near (x ⊕ fin false 884279719003555 (negsuc 48)) (k .sign) (k .units) (k .value) (k .small)));
   cosine = finish (sin-sum (x ⊕ fin false 884279719003555 (negsuc 48))) true (k .sign) X (k .units) (as-diff true (1 * N)) (cos-poly 21) (sin-poly 9) (k .small) (k .same) cos-down-1 (sin-near (x ⊕ fin false 884279719003555 (negsuc 48)) (k .sign) (k .units) (k .value) (k .small));
 }
 
-case-down-2 : (x : Float) (X : ℕ) → Reached (x ⊕ fin false 884279719003555 (negsuc 47)) true X (2 * N) → Both45 (sin-at (record { r = x ⊕ fin false 884279719003555 (negsuc 47); k = 2 })) (cos-at (record { r = x ⊕ fin false 884279719003555 (negsuc 47); k = 2 })) true X
+case-down-2 : (x : Float) (X : ℕ) → Reached (x ⊕ fin false 884279719003555 (negsuc 47)) true X (2 * N) → BothInBound (sin-at (record { r = x ⊕ fin false 884279719003555 (negsuc 47); k = 2 })) (cos-at (record { r = x ⊕ fin false 884279719003555 (negsuc 47); k = 2 })) true X
 unfolding sin-at cos-at pick
 case-down-2 x X k = record {
   sine = finish (neg (sin-sum (x ⊕ fin false 884279719003555 (negsuc 47)))) true (k .sign) X (k .units) (as-diff true (2 * N)) (sin-poly 21) (minus-poly (sin-poly 9)) (k .small) (k .same) sin-down-2 (neg-near (sin-sum (x ⊕ fin false 884279719003555 (negsuc 47))) (sin-poly 9) (as-diff (k .sign) (k .units)) (sin-near (x ⊕ fin false 884279719003555 (negsuc 47)) (k .sign) (k .units) (k .value) (k .small)));
   cosine = finish (neg (cos-sum (x ⊕ fin false 884279719003555 (negsuc 47)))) true (k .sign) X (k .units) (as-diff true (2 * N)) (cos-poly 21) (minus-poly (cos-poly 9)) (k .small) (k .same) cos-down-2 (neg-near (cos-sum (x ⊕ fin false 884279719003555 (negsuc 47))) (cos-poly 9) (as-diff (k .sign) (k .units)) (cos-near (x ⊕ fin false 884279719003555 (negsuc 47)) (k .sign) (k .units) (k .value) (k .small)));
 }
 
-case-down-3 : (x : Float) (X : ℕ) → Reached (x ⊕ fin false 2652839157010665 (negsuc 48)) true X (3 * N) → Both45 (sin-at (record { r = x ⊕ fin false 2652839157010665 (negsuc 48); k = 1 })) (cos-at (record { r = x ⊕ fin false 2652839157010665 (negsuc 48); k = 1 })) true X
+case-down-3 : (x : Float) (X : ℕ) → Reached (x ⊕ fin false 2652839157010665 (negsuc 48)) true X (3 * N) → BothInBound (sin-at (record { r = x ⊕ fin false 2652839157010665 (negsuc 48); k = 1 })) (cos-at (record { r = x ⊕ fin false 2652839157010665 (negsuc 48); k = 1 })) true X
 unfolding sin-at cos-at pick
 case-down-3 x X k = record {
   sine = finish (cos-sum (x ⊕ fin false 2652839157010665 (negsuc 48))) true (k .sign) X (k .units) (as-diff true (3 * N)) (sin-poly 21) (cos-poly 9) (k .small) (k .same) sin-down-3 (cos-near (x ⊕ fin false 2652839157010665 (negsuc 48)) (k .sign) (k .units) (k .value) (k .small));
@@ -129,24 +129,24 @@ module _ (s : Bool) (m : ℕ) (e : ℤ) (X : ℕ) (t : T (fits binary64 (fin s m
 
 -- ---- the reduction by its number of quarter turns
 turn-up : (m : ℕ) (e : ℤ) (X i : ℕ) → T (fits binary64 (fin false m e)) → Val (fin false m e) false X → X ≤ 4 * 2 ^ 1074 → i ≤ 3 → nearest-whole (fin false m e ⊘ frac-pi-2) ≡ pos i
-    → 128 * X ≤ 128 * (i * N) + 101 * 2 ^ 1074 → 128 * (i * N) ≤ 128 * X + 101 * 2 ^ 1074 → Both45 (sin-at (reduce (fin false m e))) (cos-at (reduce (fin false m e))) false X
+    → 128 * X ≤ 128 * (i * N) + 101 * 2 ^ 1074 → 128 * (i * N) ≤ 128 * X + 101 * 2 ^ 1074 → BothInBound (sin-at (reduce (fin false m e))) (cos-at (reduce (fin false m e))) false X
 unfolding sub mul ofInt neg ofBits quarter
-turn-up m e X zero t v h l is p q = subst (λ (d : Reduced). Both45 (sin-at d) (cos-at d) false X) (reduced-at (fin false m e) (pos 0) is) (case-up-0 (fin false m e) X (none false m e X t v h (fin true 0 (pos 0)) true (refl, refl) p))
-turn-up m e X (suc zero) t v h l is p q = subst (λ (d : Reduced). Both45 (sin-at d) (cos-at d) false X) (reduced-at (fin false m e) (pos 1) is) (case-up-1 (fin false m e) X (met false m e X t v h 1 14148475504056880 (fin true 884279719003555 (negsuc 48)) (lit≤ tt) (lit≤ tt) refl (refl, refl) p q))
-turn-up m e X (suc (suc zero)) t v h l is p q = subst (λ (d : Reduced). Both45 (sin-at d) (cos-at d) false X) (reduced-at (fin false m e) (pos 2) is) (case-up-2 (fin false m e) X (met false m e X t v h 2 28296951008113760 (fin true 884279719003555 (negsuc 47)) (lit≤ tt) (lit≤ tt) refl (refl, refl) p q))
-turn-up m e X (suc (suc (suc zero))) t v h l is p q = subst (λ (d : Reduced). Both45 (sin-at d) (cos-at d) false X) (reduced-at (fin false m e) (pos 3) is) (case-up-3 (fin false m e) X (met false m e X t v h 3 42445426512170640 (fin true 2652839157010665 (negsuc 48)) (lit≤ tt) (lit≤ tt) refl (refl, refl) p q))
+turn-up m e X zero t v h l is p q = subst (λ (d : Reduced). BothInBound (sin-at d) (cos-at d) false X) (reduced-at (fin false m e) (pos 0) is) (case-up-0 (fin false m e) X (none false m e X t v h (fin true 0 (pos 0)) true (refl, refl) p))
+turn-up m e X (suc zero) t v h l is p q = subst (λ (d : Reduced). BothInBound (sin-at d) (cos-at d) false X) (reduced-at (fin false m e) (pos 1) is) (case-up-1 (fin false m e) X (met false m e X t v h 1 14148475504056880 (fin true 884279719003555 (negsuc 48)) (lit≤ tt) (lit≤ tt) refl (refl, refl) p q))
+turn-up m e X (suc (suc zero)) t v h l is p q = subst (λ (d : Reduced). BothInBound (sin-at d) (cos-at d) false X) (reduced-at (fin false m e) (pos 2) is) (case-up-2 (fin false m e) X (met false m e X t v h 2 28296951008113760 (fin true 884279719003555 (negsuc 47)) (lit≤ tt) (lit≤ tt) refl (refl, refl) p q))
+turn-up m e X (suc (suc (suc zero))) t v h l is p q = subst (λ (d : Reduced). BothInBound (sin-at d) (cos-at d) false X) (reduced-at (fin false m e) (pos 3) is) (case-up-3 (fin false m e) X (met false m e X t v h 3 42445426512170640 (fin true 2652839157010665 (negsuc 48)) (lit≤ tt) (lit≤ tt) refl (refl, refl) p q))
 turn-up m e X (suc (suc (suc (suc i)))) t v h l is p q = absurd (far i l)
   where
     far : (i : ℕ) → suc (suc (suc (suc i))) ≤ 3 → ⊥
     far i l = omega arith
 
 turn-down : (m : ℕ) (e : ℤ) (X i : ℕ) → T (fits binary64 (fin true m e)) → Val (fin true m e) true X → X ≤ 4 * 2 ^ 1074 → i ≤ 3 → nearest-whole (fin true m e ⊘ frac-pi-2) ≡ negℤ (pos i)
-    → 128 * X ≤ 128 * (i * N) + 101 * 2 ^ 1074 → 128 * (i * N) ≤ 128 * X + 101 * 2 ^ 1074 → Both45 (sin-at (reduce (fin true m e))) (cos-at (reduce (fin true m e))) true X
+    → 128 * X ≤ 128 * (i * N) + 101 * 2 ^ 1074 → 128 * (i * N) ≤ 128 * X + 101 * 2 ^ 1074 → BothInBound (sin-at (reduce (fin true m e))) (cos-at (reduce (fin true m e))) true X
 unfolding sub mul ofInt neg ofBits quarter
-turn-down m e X zero t v h l is p q = subst (λ (d : Reduced). Both45 (sin-at d) (cos-at d) true X) (reduced-at (fin true m e) (pos 0) is) (case-down-0 (fin true m e) X (none true m e X t v h (fin true 0 (pos 0)) true (refl, refl) p))
-turn-down m e X (suc zero) t v h l is p q = subst (λ (d : Reduced). Both45 (sin-at d) (cos-at d) true X) (reduced-at (fin true m e) (negsuc 0) is) (case-down-1 (fin true m e) X (met true m e X t v h 1 14148475504056880 (fin false 884279719003555 (negsuc 48)) (lit≤ tt) (lit≤ tt) refl (refl, refl) p q))
-turn-down m e X (suc (suc zero)) t v h l is p q = subst (λ (d : Reduced). Both45 (sin-at d) (cos-at d) true X) (reduced-at (fin true m e) (negsuc 1) is) (case-down-2 (fin true m e) X (met true m e X t v h 2 28296951008113760 (fin false 884279719003555 (negsuc 47)) (lit≤ tt) (lit≤ tt) refl (refl, refl) p q))
-turn-down m e X (suc (suc (suc zero))) t v h l is p q = subst (λ (d : Reduced). Both45 (sin-at d) (cos-at d) true X) (reduced-at (fin true m e) (negsuc 2) is) (case-down-3 (fin true m e) X (met true m e X t v h 3 42445426512170640 (fin false 2652839157010665 (negsuc 48)) (lit≤ tt) (lit≤ tt) refl (refl, refl) p q))
+turn-down m e X zero t v h l is p q = subst (λ (d : Reduced). BothInBound (sin-at d) (cos-at d) true X) (reduced-at (fin true m e) (pos 0) is) (case-down-0 (fin true m e) X (none true m e X t v h (fin true 0 (pos 0)) true (refl, refl) p))
+turn-down m e X (suc zero) t v h l is p q = subst (λ (d : Reduced). BothInBound (sin-at d) (cos-at d) true X) (reduced-at (fin true m e) (negsuc 0) is) (case-down-1 (fin true m e) X (met true m e X t v h 1 14148475504056880 (fin false 884279719003555 (negsuc 48)) (lit≤ tt) (lit≤ tt) refl (refl, refl) p q))
+turn-down m e X (suc (suc zero)) t v h l is p q = subst (λ (d : Reduced). BothInBound (sin-at d) (cos-at d) true X) (reduced-at (fin true m e) (negsuc 1) is) (case-down-2 (fin true m e) X (met true m e X t v h 2 28296951008113760 (fin false 884279719003555 (negsuc 47)) (lit≤ tt) (lit≤ tt) refl (refl, refl) p q))
+turn-down m e X (suc (suc (suc zero))) t v h l is p q = subst (λ (d : Reduced). BothInBound (sin-at d) (cos-at d) true X) (reduced-at (fin true m e) (negsuc 2) is) (case-down-3 (fin true m e) X (met true m e X t v h 3 42445426512170640 (fin false 2652839157010665 (negsuc 48)) (lit≤ tt) (lit≤ tt) refl (refl, refl) p q))
 turn-down m e X (suc (suc (suc (suc i)))) t v h l is p q = absurd (far i l)
   where
     far : (i : ℕ) → suc (suc (suc (suc i))) ≤ 3 → ⊥
@@ -162,7 +162,7 @@ within-turn a b p h = omega arith
 unturned : (s : Bool) (m : ℕ) (e : ℤ) (X : ℕ) → T (fits binary64 (fin s m e)) → Val (fin s m e) s X → X ≤ 4 * 2 ^ 1074 → rem binary64 (fin s m e) tau ≡ fin s m e
 unturned s m e X t v h = rem-small s m e t (within-turn (m * up e) (down e) (down-pos e) (cancel (2 ^ 1074) (m * up e) (down e) X (lit< tt) (v .1) h))
 
-turn-any : (s : Bool) (m : ℕ) (e : ℤ) (X : ℕ) → T (fits binary64 (fin s m e)) → Val (fin s m e) s X → X ≤ 4 * 2 ^ 1074 → Both45 (sin-at (reduce (fin s m e))) (cos-at (reduce (fin s m e))) s X
+turn-any : (s : Bool) (m : ℕ) (e : ℤ) (X : ℕ) → T (fits binary64 (fin s m e)) → Val (fin s m e) s X → X ≤ 4 * 2 ^ 1074 → BothInBound (sin-at (reduce (fin s m e))) (cos-at (reduce (fin s m e))) s X
 turn-any s m e X t v h =
     let q = quotient (fin s m e) s X v (le-trans h (lit≤ tt)) in
     let n = nearest-is (fin s m e ⊘ frac-pi-2) s (q .units) (q .value) in
@@ -172,18 +172,18 @@ turn-any s m e X t v h =
     go s m e X i t v h l (n .is) (above U N X (q .units) i refl (lit≤ tt) (lit≤ tt) h (q .off) (n .most) l) (below U N X (q .units) i refl (lit≤ tt) (lit≤ tt) h (q .off) (n .least))
   where
     go : (s : Bool) (m : ℕ) (e : ℤ) (X i : ℕ) → T (fits binary64 (fin s m e)) → Val (fin s m e) s X → X ≤ 4 * 2 ^ 1074 → i ≤ 3 → nearest-whole (fin s m e ⊘ frac-pi-2) ≡ cond s (negℤ (pos i)) (pos i)
-        → 128 * X ≤ 128 * (i * N) + 101 * 2 ^ 1074 → 128 * (i * N) ≤ 128 * X + 101 * 2 ^ 1074 → Both45 (sin-at (reduce (fin s m e))) (cos-at (reduce (fin s m e))) s X
+        → 128 * X ≤ 128 * (i * N) + 101 * 2 ^ 1074 → 128 * (i * N) ≤ 128 * X + 101 * 2 ^ 1074 → BothInBound (sin-at (reduce (fin s m e))) (cos-at (reduce (fin s m e))) s X
     go true m e X i t v h l is p q = turn-down m e X i t v h l is p q
     go false m e X i t v h l is p q = turn-up m e X i t v h l is p q
 
-pub accurate : (x : Float) (s : Bool) (X : ℕ) → T (fits binary64 x) → Val x s X → X ≤ 4 * 2 ^ 1074 → Both45 (sin x) (cos x) s X
+pub accurate : (x : Float) (s : Bool) (X : ℕ) → T (fits binary64 x) → Val x s X → X ≤ 4 * 2 ^ 1074 → BothInBound (sin x) (cos x) s X
 accurate nan s X t v h = absurd v
 accurate (inf u) s X t v h = absurd v
 accurate (fin u m e) s X t v h =
-    subst (λ (b : Bool). Both45 (sin (fin u m e)) (cos (fin u m e)) b X) (v .0)
+    subst (λ (b : Bool). BothInBound (sin (fin u m e)) (cos (fin u m e)) b X) (v .0)
     (let k = turn-any u m e X t (refl, v .1) h in
     let r = unturned u m e X t (refl, v .1) h in
     record {
-      sine = subst (λ (y : Float). Within45 y (ev (sin-poly 21) (as-diff u X))) (ap (λ (y : Float). sin-at (reduce y)) (sym r) ∙ sin-open (fin u m e)) (k .sine);
-      cosine = subst (λ (y : Float). Within45 y (ev (cos-poly 21) (as-diff u X))) (ap (λ (y : Float). cos-at (reduce y)) (sym r) ∙ cos-open (fin u m e)) (k .cosine);
+      sine = subst (λ (y : Float). InBound y (ev (sin-poly 21) (as-diff u X))) (ap (λ (y : Float). sin-at (reduce y)) (sym r) ∙ sin-open (fin u m e)) (k .sine);
+      cosine = subst (λ (y : Float). InBound y (ev (cos-poly 21) (as-diff u X))) (ap (λ (y : Float). cos-at (reduce y)) (sym r) ∙ cos-open (fin u m e)) (k .cosine);
     })

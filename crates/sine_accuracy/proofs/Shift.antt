@@ -7,6 +7,7 @@ use mathlib.Core.Bool.{Bool, true, false, not}
 use lib.Dec.{lit≤}
 use lib.Ieee.{Float, nan, inf, fin, neg}
 use Rattle.float.specs.Sine.{fact}
+use Rattle.sine_accuracy.specs.Accuracy.{bound}
 use Rattle.float.proofs.Units.{Off}
 use Rattle.sine_accuracy.proofs.Ops.{Val, plus, minus, Near}
 use Rattle.sine_accuracy.proofs.Horner.{near-trans}
@@ -64,15 +65,15 @@ neg-near y l r k = record {
     go true o = flip o
     go false o = flip o
 
--- ---- the whole: y is within 2 ^ -45 of q / (most * U)
-pub record Within45 (y : Float) (q : Diff) : Type 0 where
+-- ---- the whole: y is within 1 / bound of q / (most * U)
+pub record InBound (y : Float) (q : Diff) : Type 0 where
   pub sign : Bool
   pub units : ℕ
   pub value : Val y sign units
-  pub near : Near (2 ^ 45 * (plus sign units * most)) (2 ^ 45 * (minus sign units * most)) (2 ^ 45 * q .p) (2 ^ 45 * q .n) (most * 2 ^ 1074)
+  pub near : Near (bound * (plus sign units * most)) (bound * (minus sign units * most)) (bound * q .p) (bound * q .n) (most * 2 ^ 1074)
 
 pub finish : (y : Float) (s t : Bool) (X R : ℕ) (c : Diff) (q l : List Diff) → 128 * R ≤ 101 * 2 ^ 1074 → Same (c ⊞ as-diff t R) (as-diff s X) → 2 ^ 53 * gap c q l ≤ 4 * (most * 2 ^ 1074)
-    → SumNear y (ev l (as-diff t R)) → Within45 y (ev q (as-diff s X))
+    → SumNear y (ev l (as-diff t R)) → InBound y (ev q (as-diff s X))
 finish y s t X R c q l h e g k = record {
   sign = k .sign;
   units = k .units;
@@ -88,7 +89,7 @@ finish y s t X R c q l h e g k = record {
         cut : (R w : ℕ) → 128 * R ≤ 101 * (128 * w) → R ≤ 101 * w
         cut R w h = omega arith
 
-    go : (a b p n u t M : ℕ) → p + t ≡ u + n → Near (2 ^ 53 * a) (2 ^ 53 * b) (2 ^ 53 * p) (2 ^ 53 * n) (30 * M + 4 * M) → Near (2 ^ 45 * a) (2 ^ 45 * b) (2 ^ 45 * u) (2 ^ 45 * t) M
+    go : (a b p n u t M : ℕ) → p + t ≡ u + n → Near (2 ^ 53 * a) (2 ^ 53 * b) (2 ^ 53 * p) (2 ^ 53 * n) (30 * M + 4 * M) → Near (bound * a) (bound * b) (bound * u) (bound * t) M
     go a b p n u t M e o = let x = o .under in let y = o .over in record { under = omega arith; over = omega arith }
 
 -- ---- the gaps, computed

@@ -10,13 +10,13 @@ use lib.IntN.{ℤ}
 use lib.Ieee.{Float, nan, inf, fin, binary64, up, down, fits}
 use Rattle.float.specs.Number.{is-finite}
 use Rattle.float.specs.Sine.{fact, sin, cos}
-use Rattle.sine_accuracy.specs.Accuracy.{whole, units-over, term-over, part, Close, SinGood, CosGood}
+use Rattle.sine_accuracy.specs.Accuracy.{bound, whole, units-over, term-over, part, Close, SinGood, CosGood}
 use Rattle.scalar.proofs.Own.{fitting, grid}
 use Rattle.sine_accuracy.proofs.Ops.{Val, plus, minus, Near}
 use Rattle.sine_accuracy.proofs.Poly.{Diff, both, _⊞_, _⊠_, ev, spread, ev-spread, nil-⊞}
 use Rattle.sine_accuracy.proofs.Series.{share, coefficient, either, signed-by, series, sin-poly, cos-poly}
 use Rattle.sine_accuracy.proofs.Sums.{as-diff, most, squared}
-use Rattle.sine_accuracy.proofs.Shift.{Within45}
+use Rattle.sine_accuracy.proofs.Shift.{InBound}
 use Rattle.sine_accuracy.proofs.Accuracy.{accurate}
 
 -- ---- the nested form is the sum of the terms
@@ -106,14 +106,14 @@ most-is : most ≡ fact 41 * (2 ^ 1074) ^ 40
 unfolding most
 most-is = refl
 
-gathered : (a b p n w : ℕ) → Near (2 ^ 45 * a) (2 ^ 45 * b) (2 ^ 45 * p) (2 ^ 45 * n) w → (2 ^ 45 * (a + n) ≤ 2 ^ 45 * (p + b) + w) × (2 ^ 45 * (p + b) ≤ 2 ^ 45 * (a + n) + w)
+gathered : (a b p n w : ℕ) → Near (bound * a) (bound * b) (bound * p) (bound * n) w → (bound * (a + n) ≤ bound * (p + b) + w) × (bound * (p + b) ≤ bound * (a + n) + w)
 gathered a b p n w o = let x = o .under in let y = o .over in (omega arith, omega arith)
 
-close-to : (y : Float) (q : Diff) (p n : ℕ) → q ≡ record { p = p; n = n } → Within45 y q → Close y p n
+close-to : (y : Float) (q : Diff) (p n : ℕ) → q ≡ record { p = p; n = n } → InBound y q → Close y p n
 close-to y q p n e k =
-    let o = subst (λ (d : Diff). Near (2 ^ 45 * (plus (k .sign) (k .units) * most)) (2 ^ 45 * (minus (k .sign) (k .units) * most)) (2 ^ 45 * d .p) (2 ^ 45 * d .n) (most * 2 ^ 1074)) e (k .near) in
-    let f = subst (λ (w : ℕ). Near (2 ^ 45 * (plus (k .sign) (k .units) * w)) (2 ^ 45 * (minus (k .sign) (k .units) * w)) (2 ^ 45 * p) (2 ^ 45 * n) (most * 2 ^ 1074)) most-is o in
-    let g = subst (λ (w : ℕ). Near (2 ^ 45 * units-over (plus (k .sign) (k .units))) (2 ^ 45 * units-over (minus (k .sign) (k .units))) (2 ^ 45 * p) (2 ^ 45 * n) w) whole-is f in
+    let o = subst (λ (d : Diff). Near (bound * (plus (k .sign) (k .units) * most)) (bound * (minus (k .sign) (k .units) * most)) (bound * d .p) (bound * d .n) (most * 2 ^ 1074)) e (k .near) in
+    let f = subst (λ (w : ℕ). Near (bound * (plus (k .sign) (k .units) * w)) (bound * (minus (k .sign) (k .units) * w)) (bound * p) (bound * n) (most * 2 ^ 1074)) most-is o in
+    let g = subst (λ (w : ℕ). Near (bound * units-over (plus (k .sign) (k .units))) (bound * units-over (minus (k .sign) (k .units))) (bound * p) (bound * n) w) whole-is f in
     let i = gathered (units-over (plus (k .sign) (k .units))) (units-over (minus (k .sign) (k .units))) p n whole g in
     record { negative = k .sign; units = k .units; value = k .value; above = i .0; below = i .1 }
 

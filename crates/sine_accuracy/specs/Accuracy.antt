@@ -11,6 +11,10 @@ use lib.Ieee.{Float}
 use lib.Ieee.Exact.{HasValue}
 use Rattle.float.specs.Sine.{fact, sin, cos}
 
+-- "within 2^-45" is within 1 / `bound`
+abbrev pub bound : ℕ
+bound = 2 ^ 45
+
 -- what every fraction here is over: 41 ! * (2 ^ 1074) ^ 41
 abbrev pub whole : ℕ
 whole = fact 41 * (2 ^ 1074) ^ 41
@@ -30,13 +34,13 @@ unfolding term-over
 part even o zero j X = 0
 part even o (suc m) j X = cond (Bool·beq even (eqb (j % 2) 0)) (term-over (2 * j + o) X) 0 + part even o m (suc j) X
 
--- y is finite and within 2 ^ -45 of (p - n) / `whole`: over `whole`, 2 ^ 45 times the distance of y from p - n is at most `whole`
+-- y is finite, and |y - (p - n) / whole| is at most 1 / bound: times bound * whole, and with what is taken away on the other side
 pub record Close (y : Float) (p n : ℕ) : Type 0 where
   pub negative : Bool
   pub units : ℕ
   pub value : HasValue y negative units (2 ^ 1074)
-  pub above : 2 ^ 45 * (units-over (cond negative 0 units) + n) ≤ 2 ^ 45 * (p + units-over (cond negative units 0)) + whole
-  pub below : 2 ^ 45 * (p + units-over (cond negative units 0)) ≤ 2 ^ 45 * (units-over (cond negative 0 units) + n) + whole
+  pub above : bound * (units-over (cond negative 0 units) + n) ≤ bound * (p + units-over (cond negative units 0)) + whole
+  pub below : bound * (p + units-over (cond negative units 0)) ≤ bound * (units-over (cond negative 0 units) + n) + whole
 
 -- x is finite; if its size is at most 4, the sine is close to the sum of (-1) ^ j * x ^ (2 j + 1) / (2 j + 1) !, j = 0 to 20: for x not negative that of the terms with even j less that of the others, for x negative the opposite
 pub record SinGood (x : Float) : Type 0 where
