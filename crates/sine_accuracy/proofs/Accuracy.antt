@@ -11,6 +11,7 @@ use lib.Ieee.Fits.{down-pos}
 use Rattle.float.specs.Num.{tau, frac-pi-2, _⊕_, _⊘_}
 use Rattle.float.specs.Sine.{nearest-whole, quarter, reduce, pick, sin-sum, cos-sum, sin-at, cos-at, sin, cos}
 use Rattle.float.specs.declared.sine.Reduced.{Reduced}
+use Rattle.sine_accuracy.specs.Accuracy.{terms}
 use Rattle.scalar.proofs.Own.{rem-small}
 use Rattle.float.proofs.Reduction.{reduced-at, sin-open, cos-open}
 use Rattle.sine_accuracy.proofs.Ops.{Val, plus, minus}
@@ -26,64 +27,64 @@ N = 884279719003555 * 2 ^ 1025
 
 -- both functions
 pub record BothInBound (x y : Float) (s : Bool) (X : ℕ) : Type 0 where
-  pub sine : InBound x (ev (sin-poly 21) (as-diff s X))
-  pub cosine : InBound y (ev (cos-poly 21) (as-diff s X))
+  pub sine : InBound x (ev (sin-poly terms) (as-diff s X))
+  pub cosine : InBound y (ev (cos-poly terms) (as-diff s X))
 
 -- ---- by the number of quarter turns
 case-up-0 : (x : Float) (X : ℕ) → Reached (x ⊕ fin true 0 (pos 0)) false X (0 * N) → BothInBound (sin-at (record { r = x ⊕ fin true 0 (pos 0); k = 0 })) (cos-at (record { r = x ⊕ fin true 0 (pos 0); k = 0 })) false X
 unfolding sin-at cos-at pick
 case-up-0 x X k = record {
-  sine = finish (sin-sum (x ⊕ fin true 0 (pos 0))) false (k .sign) X (k .units) (as-diff false (0 * N)) (sin-poly 21) (sin-poly 9) (k .small) (k .same) sin-up-0 (sin-near (x ⊕ fin true 0 (pos 0)) (k .sign) (k .units) (k .value) (k .small));
-  cosine = finish (cos-sum (x ⊕ fin true 0 (pos 0))) false (k .sign) X (k .units) (as-diff false (0 * N)) (cos-poly 21) (cos-poly 9) (k .small) (k .same) cos-up-0 (cos-near (x ⊕ fin true 0 (pos 0)) (k .sign) (k .units) (k .value) (k .small));
+  sine = finish (sin-sum (x ⊕ fin true 0 (pos 0))) false (k .sign) X (k .units) (as-diff false (0 * N)) (sin-poly terms) (sin-poly 9) (k .small) (k .same) sin-up-0 (sin-near (x ⊕ fin true 0 (pos 0)) (k .sign) (k .units) (k .value) (k .small));
+  cosine = finish (cos-sum (x ⊕ fin true 0 (pos 0))) false (k .sign) X (k .units) (as-diff false (0 * N)) (cos-poly terms) (cos-poly 9) (k .small) (k .same) cos-up-0 (cos-near (x ⊕ fin true 0 (pos 0)) (k .sign) (k .units) (k .value) (k .small));
 }
 
 case-up-1 : (x : Float) (X : ℕ) → Reached (x ⊕ fin true 884279719003555 (negsuc 48)) false X (1 * N) → BothInBound (sin-at (record { r = x ⊕ fin true 884279719003555 (negsuc 48); k = 1 })) (cos-at (record { r = x ⊕ fin true 884279719003555 (negsuc 48); k = 1 })) false X
 unfolding sin-at cos-at pick
 case-up-1 x X k = record {
-  sine = finish (cos-sum (x ⊕ fin true 884279719003555 (negsuc 48))) false (k .sign) X (k .units) (as-diff false (1 * N)) (sin-poly 21) (cos-poly 9) (k .small) (k .same) sin-up-1 (cos-near (x ⊕ fin true 884279719003555 (negsuc 48)) (k .sign) (k .units) (k .value) (k .small));
-  cosine = finish (neg (sin-sum (x ⊕ fin true 884279719003555 (negsuc 48)))) false (k .sign) X (k .units) (as-diff false (1 * N)) (cos-poly 21) (minus-poly (sin-poly 9)) (k .small) (k .same) cos-up-1 (neg-near (sin-sum (x ⊕ fin true 884279719003555 (negsuc 48))) (sin-poly 9) (as-diff (k .sign) (k .units)) (sin-near (x ⊕ fin true 884279719003555 (negsuc 48)) (k .sign) (k .units) (k .value) (k .small)));
+  sine = finish (cos-sum (x ⊕ fin true 884279719003555 (negsuc 48))) false (k .sign) X (k .units) (as-diff false (1 * N)) (sin-poly terms) (cos-poly 9) (k .small) (k .same) sin-up-1 (cos-near (x ⊕ fin true 884279719003555 (negsuc 48)) (k .sign) (k .units) (k .value) (k .small));
+  cosine = finish (neg (sin-sum (x ⊕ fin true 884279719003555 (negsuc 48)))) false (k .sign) X (k .units) (as-diff false (1 * N)) (cos-poly terms) (minus-poly (sin-poly 9)) (k .small) (k .same) cos-up-1 (neg-near (sin-sum (x ⊕ fin true 884279719003555 (negsuc 48))) (sin-poly 9) (as-diff (k .sign) (k .units)) (sin-near (x ⊕ fin true 884279719003555 (negsuc 48)) (k .sign) (k .units) (k .value) (k .small)));
 }
 
 case-up-2 : (x : Float) (X : ℕ) → Reached (x ⊕ fin true 884279719003555 (negsuc 47)) false X (2 * N) → BothInBound (sin-at (record { r = x ⊕ fin true 884279719003555 (negsuc 47); k = 2 })) (cos-at (record { r = x ⊕ fin true 884279719003555 (negsuc 47); k = 2 })) false X
 unfolding sin-at cos-at pick
 case-up-2 x X k = record {
-  sine = finish (neg (sin-sum (x ⊕ fin true 884279719003555 (negsuc 47)))) false (k .sign) X (k .units) (as-diff false (2 * N)) (sin-poly 21) (minus-poly (sin-poly 9)) (k .small) (k .same) sin-up-2 (neg-near (sin-sum (x ⊕ fin true 884279719003555 (negsuc 47))) (sin-poly 9) (as-diff (k .sign) (k .units)) (sin-near (x ⊕ fin true 884279719003555 (negsuc 47)) (k .sign) (k .units) (k .value) (k .small)));
-  cosine = finish (neg (cos-sum (x ⊕ fin true 884279719003555 (negsuc 47)))) false (k .sign) X (k .units) (as-diff false (2 * N)) (cos-poly 21) (minus-poly (cos-poly 9)) (k .small) (k .same) cos-up-2 (neg-near (cos-sum (x ⊕ fin true 884279719003555 (negsuc 47))) (cos-poly 9) (as-diff (k .sign) (k .units)) (cos-near (x ⊕ fin true 884279719003555 (negsuc 47)) (k .sign) (k .units) (k .value) (k .small)));
+  sine = finish (neg (sin-sum (x ⊕ fin true 884279719003555 (negsuc 47)))) false (k .sign) X (k .units) (as-diff false (2 * N)) (sin-poly terms) (minus-poly (sin-poly 9)) (k .small) (k .same) sin-up-2 (neg-near (sin-sum (x ⊕ fin true 884279719003555 (negsuc 47))) (sin-poly 9) (as-diff (k .sign) (k .units)) (sin-near (x ⊕ fin true 884279719003555 (negsuc 47)) (k .sign) (k .units) (k .value) (k .small)));
+  cosine = finish (neg (cos-sum (x ⊕ fin true 884279719003555 (negsuc 47)))) false (k .sign) X (k .units) (as-diff false (2 * N)) (cos-poly terms) (minus-poly (cos-poly 9)) (k .small) (k .same) cos-up-2 (neg-near (cos-sum (x ⊕ fin true 884279719003555 (negsuc 47))) (cos-poly 9) (as-diff (k .sign) (k .units)) (cos-near (x ⊕ fin true 884279719003555 (negsuc 47)) (k .sign) (k .units) (k .value) (k .small)));
 }
 
 case-up-3 : (x : Float) (X : ℕ) → Reached (x ⊕ fin true 2652839157010665 (negsuc 48)) false X (3 * N) → BothInBound (sin-at (record { r = x ⊕ fin true 2652839157010665 (negsuc 48); k = 3 })) (cos-at (record { r = x ⊕ fin true 2652839157010665 (negsuc 48); k = 3 })) false X
 unfolding sin-at cos-at pick
 case-up-3 x X k = record {
-  sine = finish (neg (cos-sum (x ⊕ fin true 2652839157010665 (negsuc 48)))) false (k .sign) X (k .units) (as-diff false (3 * N)) (sin-poly 21) (minus-poly (cos-poly 9)) (k .small) (k .same) sin-up-3 (neg-near (cos-sum (x ⊕ fin true 2652839157010665 (negsuc 48))) (cos-poly 9) (as-diff (k .sign) (k .units)) (cos-near (x ⊕ fin true 2652839157010665 (negsuc 48)) (k .sign) (k .units) (k .value) (k .small)));
-  cosine = finish (sin-sum (x ⊕ fin true 2652839157010665 (negsuc 48))) false (k .sign) X (k .units) (as-diff false (3 * N)) (cos-poly 21) (sin-poly 9) (k .small) (k .same) cos-up-3 (sin-near (x ⊕ fin true 2652839157010665 (negsuc 48)) (k .sign) (k .units) (k .value) (k .small));
+  sine = finish (neg (cos-sum (x ⊕ fin true 2652839157010665 (negsuc 48)))) false (k .sign) X (k .units) (as-diff false (3 * N)) (sin-poly terms) (minus-poly (cos-poly 9)) (k .small) (k .same) sin-up-3 (neg-near (cos-sum (x ⊕ fin true 2652839157010665 (negsuc 48))) (cos-poly 9) (as-diff (k .sign) (k .units)) (cos-near (x ⊕ fin true 2652839157010665 (negsuc 48)) (k .sign) (k .units) (k .value) (k .small)));
+  cosine = finish (sin-sum (x ⊕ fin true 2652839157010665 (negsuc 48))) false (k .sign) X (k .units) (as-diff false (3 * N)) (cos-poly terms) (sin-poly 9) (k .small) (k .same) cos-up-3 (sin-near (x ⊕ fin true 2652839157010665 (negsuc 48)) (k .sign) (k .units) (k .value) (k .small));
 }
 
 case-down-0 : (x : Float) (X : ℕ) → Reached (x ⊕ fin true 0 (pos 0)) true X (0 * N) → BothInBound (sin-at (record { r = x ⊕ fin true 0 (pos 0); k = 0 })) (cos-at (record { r = x ⊕ fin true 0 (pos 0); k = 0 })) true X
 unfolding sin-at cos-at pick
 case-down-0 x X k = record {
-  sine = finish (sin-sum (x ⊕ fin true 0 (pos 0))) true (k .sign) X (k .units) (as-diff true (0 * N)) (sin-poly 21) (sin-poly 9) (k .small) (k .same) sin-up-0 (sin-near (x ⊕ fin true 0 (pos 0)) (k .sign) (k .units) (k .value) (k .small));
-  cosine = finish (cos-sum (x ⊕ fin true 0 (pos 0))) true (k .sign) X (k .units) (as-diff true (0 * N)) (cos-poly 21) (cos-poly 9) (k .small) (k .same) cos-up-0 (cos-near (x ⊕ fin true 0 (pos 0)) (k .sign) (k .units) (k .value) (k .small));
+  sine = finish (sin-sum (x ⊕ fin true 0 (pos 0))) true (k .sign) X (k .units) (as-diff true (0 * N)) (sin-poly terms) (sin-poly 9) (k .small) (k .same) sin-up-0 (sin-near (x ⊕ fin true 0 (pos 0)) (k .sign) (k .units) (k .value) (k .small));
+  cosine = finish (cos-sum (x ⊕ fin true 0 (pos 0))) true (k .sign) X (k .units) (as-diff true (0 * N)) (cos-poly terms) (cos-poly 9) (k .small) (k .same) cos-up-0 (cos-near (x ⊕ fin true 0 (pos 0)) (k .sign) (k .units) (k .value) (k .small));
 }
 
 case-down-1 : (x : Float) (X : ℕ) → Reached (x ⊕ fin false 884279719003555 (negsuc 48)) true X (1 * N) → BothInBound (sin-at (record { r = x ⊕ fin false 884279719003555 (negsuc 48); k = 3 })) (cos-at (record { r = x ⊕ fin false 884279719003555 (negsuc 48); k = 3 })) true X
 unfolding sin-at cos-at pick
 case-down-1 x X k = record {
-  sine = finish (neg (cos-sum (x ⊕ fin false 884279719003555 (negsuc 48)))) true (k .sign) X (k .units) (as-diff true (1 * N)) (sin-poly 21) (minus-poly (cos-poly 9)) (k .small) (k .same) sin-down-1 (neg-near (cos-sum (x ⊕ fin false 884279719003555 (negsuc 48))) (cos-poly 9) (as-diff (k .sign) (k .units)) (cos-near (x ⊕ fin false 884279719003555 (negsuc 48)) (k .sign) (k .units) (k .value) (k .small)));
-  cosine = finish (sin-sum (x ⊕ fin false 884279719003555 (negsuc 48))) true (k .sign) X (k .units) (as-diff true (1 * N)) (cos-poly 21) (sin-poly 9) (k .small) (k .same) cos-down-1 (sin-near (x ⊕ fin false 884279719003555 (negsuc 48)) (k .sign) (k .units) (k .value) (k .small));
+  sine = finish (neg (cos-sum (x ⊕ fin false 884279719003555 (negsuc 48)))) true (k .sign) X (k .units) (as-diff true (1 * N)) (sin-poly terms) (minus-poly (cos-poly 9)) (k .small) (k .same) sin-down-1 (neg-near (cos-sum (x ⊕ fin false 884279719003555 (negsuc 48))) (cos-poly 9) (as-diff (k .sign) (k .units)) (cos-near (x ⊕ fin false 884279719003555 (negsuc 48)) (k .sign) (k .units) (k .value) (k .small)));
+  cosine = finish (sin-sum (x ⊕ fin false 884279719003555 (negsuc 48))) true (k .sign) X (k .units) (as-diff true (1 * N)) (cos-poly terms) (sin-poly 9) (k .small) (k .same) cos-down-1 (sin-near (x ⊕ fin false 884279719003555 (negsuc 48)) (k .sign) (k .units) (k .value) (k .small));
 }
 
 case-down-2 : (x : Float) (X : ℕ) → Reached (x ⊕ fin false 884279719003555 (negsuc 47)) true X (2 * N) → BothInBound (sin-at (record { r = x ⊕ fin false 884279719003555 (negsuc 47); k = 2 })) (cos-at (record { r = x ⊕ fin false 884279719003555 (negsuc 47); k = 2 })) true X
 unfolding sin-at cos-at pick
 case-down-2 x X k = record {
-  sine = finish (neg (sin-sum (x ⊕ fin false 884279719003555 (negsuc 47)))) true (k .sign) X (k .units) (as-diff true (2 * N)) (sin-poly 21) (minus-poly (sin-poly 9)) (k .small) (k .same) sin-down-2 (neg-near (sin-sum (x ⊕ fin false 884279719003555 (negsuc 47))) (sin-poly 9) (as-diff (k .sign) (k .units)) (sin-near (x ⊕ fin false 884279719003555 (negsuc 47)) (k .sign) (k .units) (k .value) (k .small)));
-  cosine = finish (neg (cos-sum (x ⊕ fin false 884279719003555 (negsuc 47)))) true (k .sign) X (k .units) (as-diff true (2 * N)) (cos-poly 21) (minus-poly (cos-poly 9)) (k .small) (k .same) cos-down-2 (neg-near (cos-sum (x ⊕ fin false 884279719003555 (negsuc 47))) (cos-poly 9) (as-diff (k .sign) (k .units)) (cos-near (x ⊕ fin false 884279719003555 (negsuc 47)) (k .sign) (k .units) (k .value) (k .small)));
+  sine = finish (neg (sin-sum (x ⊕ fin false 884279719003555 (negsuc 47)))) true (k .sign) X (k .units) (as-diff true (2 * N)) (sin-poly terms) (minus-poly (sin-poly 9)) (k .small) (k .same) sin-down-2 (neg-near (sin-sum (x ⊕ fin false 884279719003555 (negsuc 47))) (sin-poly 9) (as-diff (k .sign) (k .units)) (sin-near (x ⊕ fin false 884279719003555 (negsuc 47)) (k .sign) (k .units) (k .value) (k .small)));
+  cosine = finish (neg (cos-sum (x ⊕ fin false 884279719003555 (negsuc 47)))) true (k .sign) X (k .units) (as-diff true (2 * N)) (cos-poly terms) (minus-poly (cos-poly 9)) (k .small) (k .same) cos-down-2 (neg-near (cos-sum (x ⊕ fin false 884279719003555 (negsuc 47))) (cos-poly 9) (as-diff (k .sign) (k .units)) (cos-near (x ⊕ fin false 884279719003555 (negsuc 47)) (k .sign) (k .units) (k .value) (k .small)));
 }
 
 case-down-3 : (x : Float) (X : ℕ) → Reached (x ⊕ fin false 2652839157010665 (negsuc 48)) true X (3 * N) → BothInBound (sin-at (record { r = x ⊕ fin false 2652839157010665 (negsuc 48); k = 1 })) (cos-at (record { r = x ⊕ fin false 2652839157010665 (negsuc 48); k = 1 })) true X
 unfolding sin-at cos-at pick
 case-down-3 x X k = record {
-  sine = finish (cos-sum (x ⊕ fin false 2652839157010665 (negsuc 48))) true (k .sign) X (k .units) (as-diff true (3 * N)) (sin-poly 21) (cos-poly 9) (k .small) (k .same) sin-down-3 (cos-near (x ⊕ fin false 2652839157010665 (negsuc 48)) (k .sign) (k .units) (k .value) (k .small));
-  cosine = finish (neg (sin-sum (x ⊕ fin false 2652839157010665 (negsuc 48)))) true (k .sign) X (k .units) (as-diff true (3 * N)) (cos-poly 21) (minus-poly (sin-poly 9)) (k .small) (k .same) cos-down-3 (neg-near (sin-sum (x ⊕ fin false 2652839157010665 (negsuc 48))) (sin-poly 9) (as-diff (k .sign) (k .units)) (sin-near (x ⊕ fin false 2652839157010665 (negsuc 48)) (k .sign) (k .units) (k .value) (k .small)));
+  sine = finish (cos-sum (x ⊕ fin false 2652839157010665 (negsuc 48))) true (k .sign) X (k .units) (as-diff true (3 * N)) (sin-poly terms) (cos-poly 9) (k .small) (k .same) sin-down-3 (cos-near (x ⊕ fin false 2652839157010665 (negsuc 48)) (k .sign) (k .units) (k .value) (k .small));
+  cosine = finish (neg (sin-sum (x ⊕ fin false 2652839157010665 (negsuc 48)))) true (k .sign) X (k .units) (as-diff true (3 * N)) (cos-poly terms) (minus-poly (sin-poly 9)) (k .small) (k .same) cos-down-3 (neg-near (sin-sum (x ⊕ fin false 2652839157010665 (negsuc 48))) (sin-poly 9) (as-diff (k .sign) (k .units)) (sin-near (x ⊕ fin false 2652839157010665 (negsuc 48)) (k .sign) (k .units) (k .value) (k .small)));
 }
 
 -- ---- the exact difference
@@ -184,6 +185,6 @@ accurate (fin u m e) s X t v h =
     (let k = turn-any u m e X t (refl, v .1) h in
     let r = unturned u m e X t (refl, v .1) h in
     record {
-      sine = subst (λ (y : Float). InBound y (ev (sin-poly 21) (as-diff u X))) (ap (λ (y : Float). sin-at (reduce y)) (sym r) ∙ sin-open (fin u m e)) (k .sine);
-      cosine = subst (λ (y : Float). InBound y (ev (cos-poly 21) (as-diff u X))) (ap (λ (y : Float). cos-at (reduce y)) (sym r) ∙ cos-open (fin u m e)) (k .cosine);
+      sine = subst (λ (y : Float). InBound y (ev (sin-poly terms) (as-diff u X))) (ap (λ (y : Float). sin-at (reduce y)) (sym r) ∙ sin-open (fin u m e)) (k .sine);
+      cosine = subst (λ (y : Float). InBound y (ev (cos-poly terms) (as-diff u X))) (ap (λ (y : Float). cos-at (reduce y)) (sym r) ∙ cos-open (fin u m e)) (k .cosine);
     })

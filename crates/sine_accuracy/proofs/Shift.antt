@@ -7,7 +7,7 @@ use mathlib.Core.Bool.{Bool, true, false, not}
 use lib.Dec.{lit≤}
 use lib.Ieee.{Float, nan, inf, fin, neg}
 use Rattle.float.specs.Sine.{fact}
-use Rattle.sine_accuracy.specs.Accuracy.{bound}
+use Rattle.sine_accuracy.specs.Accuracy.{bound, terms}
 use Rattle.float.proofs.Units.{Off}
 use Rattle.sine_accuracy.proofs.Ops.{Val, plus, minus, Near}
 use Rattle.sine_accuracy.proofs.Horner.{near-trans}
@@ -93,58 +93,58 @@ finish y s t X R c q l h e g k = record {
     go a b p n u t M e o = let x = o .under in let y = o .over in record { under = omega arith; over = omega arith }
 
 -- ---- the gaps, computed
-pub sin-down-3 : 2 ^ 53 * gap (record { p = 0; n = 2652839157010665 * 2 ^ 1025 }) (sin-poly 21) (cos-poly 9) ≤ 4 * (most * 2 ^ 1074)
+pub sin-down-3 : 2 ^ 53 * gap (record { p = 0; n = 2652839157010665 * 2 ^ 1025 }) (sin-poly terms) (cos-poly 9) ≤ 4 * (most * 2 ^ 1074)
 unfolding gap ev-nat sizes plus-poly shift times-poly minus-poly sin-poly cos-poly spread series coefficient share fact most _⊞_ _⊠_
 sin-down-3 = lit≤ tt
 
-pub sin-down-2 : 2 ^ 53 * gap (record { p = 0; n = 884279719003555 * 2 ^ 1026 }) (sin-poly 21) (minus-poly (sin-poly 9)) ≤ 4 * (most * 2 ^ 1074)
+pub sin-down-2 : 2 ^ 53 * gap (record { p = 0; n = 884279719003555 * 2 ^ 1026 }) (sin-poly terms) (minus-poly (sin-poly 9)) ≤ 4 * (most * 2 ^ 1074)
 unfolding gap ev-nat sizes plus-poly shift times-poly minus-poly sin-poly cos-poly spread series coefficient share fact most _⊞_ _⊠_
 sin-down-2 = lit≤ tt
 
-pub sin-down-1 : 2 ^ 53 * gap (record { p = 0; n = 884279719003555 * 2 ^ 1025 }) (sin-poly 21) (minus-poly (cos-poly 9)) ≤ 4 * (most * 2 ^ 1074)
+pub sin-down-1 : 2 ^ 53 * gap (record { p = 0; n = 884279719003555 * 2 ^ 1025 }) (sin-poly terms) (minus-poly (cos-poly 9)) ≤ 4 * (most * 2 ^ 1074)
 unfolding gap ev-nat sizes plus-poly shift times-poly minus-poly sin-poly cos-poly spread series coefficient share fact most _⊞_ _⊠_
 sin-down-1 = lit≤ tt
 
-pub sin-up-0 : 2 ^ 53 * gap nil (sin-poly 21) (sin-poly 9) ≤ 4 * (most * 2 ^ 1074)
+pub sin-up-0 : 2 ^ 53 * gap nil (sin-poly terms) (sin-poly 9) ≤ 4 * (most * 2 ^ 1074)
 unfolding gap ev-nat sizes plus-poly shift times-poly minus-poly sin-poly cos-poly spread series coefficient share fact most _⊞_ _⊠_
 sin-up-0 = lit≤ tt
 
-pub sin-up-1 : 2 ^ 53 * gap (record { p = 884279719003555 * 2 ^ 1025; n = 0 }) (sin-poly 21) (cos-poly 9) ≤ 4 * (most * 2 ^ 1074)
+pub sin-up-1 : 2 ^ 53 * gap (record { p = 884279719003555 * 2 ^ 1025; n = 0 }) (sin-poly terms) (cos-poly 9) ≤ 4 * (most * 2 ^ 1074)
 unfolding gap ev-nat sizes plus-poly shift times-poly minus-poly sin-poly cos-poly spread series coefficient share fact most _⊞_ _⊠_
 sin-up-1 = lit≤ tt
 
-pub sin-up-2 : 2 ^ 53 * gap (record { p = 884279719003555 * 2 ^ 1026; n = 0 }) (sin-poly 21) (minus-poly (sin-poly 9)) ≤ 4 * (most * 2 ^ 1074)
+pub sin-up-2 : 2 ^ 53 * gap (record { p = 884279719003555 * 2 ^ 1026; n = 0 }) (sin-poly terms) (minus-poly (sin-poly 9)) ≤ 4 * (most * 2 ^ 1074)
 unfolding gap ev-nat sizes plus-poly shift times-poly minus-poly sin-poly cos-poly spread series coefficient share fact most _⊞_ _⊠_
 sin-up-2 = lit≤ tt
 
-pub sin-up-3 : 2 ^ 53 * gap (record { p = 2652839157010665 * 2 ^ 1025; n = 0 }) (sin-poly 21) (minus-poly (cos-poly 9)) ≤ 4 * (most * 2 ^ 1074)
+pub sin-up-3 : 2 ^ 53 * gap (record { p = 2652839157010665 * 2 ^ 1025; n = 0 }) (sin-poly terms) (minus-poly (cos-poly 9)) ≤ 4 * (most * 2 ^ 1074)
 unfolding gap ev-nat sizes plus-poly shift times-poly minus-poly sin-poly cos-poly spread series coefficient share fact most _⊞_ _⊠_
 sin-up-3 = lit≤ tt
 
-pub cos-down-3 : 2 ^ 53 * gap (record { p = 0; n = 2652839157010665 * 2 ^ 1025 }) (cos-poly 21) (minus-poly (sin-poly 9)) ≤ 4 * (most * 2 ^ 1074)
+pub cos-down-3 : 2 ^ 53 * gap (record { p = 0; n = 2652839157010665 * 2 ^ 1025 }) (cos-poly terms) (minus-poly (sin-poly 9)) ≤ 4 * (most * 2 ^ 1074)
 unfolding gap ev-nat sizes plus-poly shift times-poly minus-poly sin-poly cos-poly spread series coefficient share fact most _⊞_ _⊠_
 cos-down-3 = lit≤ tt
 
-pub cos-down-2 : 2 ^ 53 * gap (record { p = 0; n = 884279719003555 * 2 ^ 1026 }) (cos-poly 21) (minus-poly (cos-poly 9)) ≤ 4 * (most * 2 ^ 1074)
+pub cos-down-2 : 2 ^ 53 * gap (record { p = 0; n = 884279719003555 * 2 ^ 1026 }) (cos-poly terms) (minus-poly (cos-poly 9)) ≤ 4 * (most * 2 ^ 1074)
 unfolding gap ev-nat sizes plus-poly shift times-poly minus-poly sin-poly cos-poly spread series coefficient share fact most _⊞_ _⊠_
 cos-down-2 = lit≤ tt
 
-pub cos-down-1 : 2 ^ 53 * gap (record { p = 0; n = 884279719003555 * 2 ^ 1025 }) (cos-poly 21) (sin-poly 9) ≤ 4 * (most * 2 ^ 1074)
+pub cos-down-1 : 2 ^ 53 * gap (record { p = 0; n = 884279719003555 * 2 ^ 1025 }) (cos-poly terms) (sin-poly 9) ≤ 4 * (most * 2 ^ 1074)
 unfolding gap ev-nat sizes plus-poly shift times-poly minus-poly sin-poly cos-poly spread series coefficient share fact most _⊞_ _⊠_
 cos-down-1 = lit≤ tt
 
-pub cos-up-0 : 2 ^ 53 * gap nil (cos-poly 21) (cos-poly 9) ≤ 4 * (most * 2 ^ 1074)
+pub cos-up-0 : 2 ^ 53 * gap nil (cos-poly terms) (cos-poly 9) ≤ 4 * (most * 2 ^ 1074)
 unfolding gap ev-nat sizes plus-poly shift times-poly minus-poly sin-poly cos-poly spread series coefficient share fact most _⊞_ _⊠_
 cos-up-0 = lit≤ tt
 
-pub cos-up-1 : 2 ^ 53 * gap (record { p = 884279719003555 * 2 ^ 1025; n = 0 }) (cos-poly 21) (minus-poly (sin-poly 9)) ≤ 4 * (most * 2 ^ 1074)
+pub cos-up-1 : 2 ^ 53 * gap (record { p = 884279719003555 * 2 ^ 1025; n = 0 }) (cos-poly terms) (minus-poly (sin-poly 9)) ≤ 4 * (most * 2 ^ 1074)
 unfolding gap ev-nat sizes plus-poly shift times-poly minus-poly sin-poly cos-poly spread series coefficient share fact most _⊞_ _⊠_
 cos-up-1 = lit≤ tt
 
-pub cos-up-2 : 2 ^ 53 * gap (record { p = 884279719003555 * 2 ^ 1026; n = 0 }) (cos-poly 21) (minus-poly (cos-poly 9)) ≤ 4 * (most * 2 ^ 1074)
+pub cos-up-2 : 2 ^ 53 * gap (record { p = 884279719003555 * 2 ^ 1026; n = 0 }) (cos-poly terms) (minus-poly (cos-poly 9)) ≤ 4 * (most * 2 ^ 1074)
 unfolding gap ev-nat sizes plus-poly shift times-poly minus-poly sin-poly cos-poly spread series coefficient share fact most _⊞_ _⊠_
 cos-up-2 = lit≤ tt
 
-pub cos-up-3 : 2 ^ 53 * gap (record { p = 2652839157010665 * 2 ^ 1025; n = 0 }) (cos-poly 21) (sin-poly 9) ≤ 4 * (most * 2 ^ 1074)
+pub cos-up-3 : 2 ^ 53 * gap (record { p = 2652839157010665 * 2 ^ 1025; n = 0 }) (cos-poly terms) (sin-poly 9) ≤ 4 * (most * 2 ^ 1074)
 unfolding gap ev-nat sizes plus-poly shift times-poly minus-poly sin-poly cos-poly spread series coefficient share fact most _⊞_ _⊠_
 cos-up-3 = lit≤ tt

@@ -10,7 +10,7 @@ use lib.IntN.{ℤ}
 use lib.Ieee.{Float, nan, inf, fin, binary64, up, down, fits}
 use Rattle.float.specs.Number.{is-finite}
 use Rattle.float.specs.Sine.{fact, sin, cos}
-use Rattle.sine_accuracy.specs.Accuracy.{bound, whole, units-over, term-over, part, Close, SinGood, CosGood}
+use Rattle.sine_accuracy.specs.Accuracy.{bound, terms, whole, units-over, term-over, part, Close, SinGood, CosGood}
 use Rattle.scalar.proofs.Own.{fitting, grid}
 use Rattle.sine_accuracy.proofs.Ops.{Val, plus, minus, Near}
 use Rattle.sine_accuracy.proofs.Poly.{Diff, both, _⊞_, _⊠_, ev, spread, ev-spread, nil-⊞}
@@ -77,25 +77,25 @@ power-none : (X a : ℕ) → a ≡ a * X ^ (2 * 0 + 0)
 power-none X a = sym (ap (λ (y : ℕ). a * y) (pow-zero X) ∙ mul-one a)
 
 abbrev sin-inner : ℕ → Diff
-sin-inner X = ev (series 1 21 0) (record { p = X * X; n = 0 })
+sin-inner X = ev (series 1 terms 0) (record { p = X * X; n = 0 })
 
-sin-opened : (s : Bool) (X : ℕ) → ev (sin-poly 21) (as-diff s X) ≡ as-diff s X ⊠ sin-inner X
+sin-opened : (s : Bool) (X : ℕ) → ev (sin-poly terms) (as-diff s X) ≡ as-diff s X ⊠ sin-inner X
 unfolding sin-poly ev
-sin-opened s X = nil-⊞ (as-diff s X ⊠ ev (spread (series 1 21 0)) (as-diff s X)) ∙ ap (λ (y : Diff). as-diff s X ⊠ y) (ev-spread (series 1 21 0) (as-diff s X) ∙ ap (λ (y : Diff). ev (series 1 21 0) y) (squared s X))
+sin-opened s X = nil-⊞ (as-diff s X ⊠ ev (spread (series 1 terms 0)) (as-diff s X)) ∙ ap (λ (y : Diff). as-diff s X ⊠ y) (ev-spread (series 1 terms 0) (as-diff s X) ∙ ap (λ (y : Diff). ev (series 1 terms 0) y) (squared s X))
 
-sin-signed : (s : Bool) (X : ℕ) → as-diff s X ⊠ sin-inner X ≡ record { p = part (not s) 1 21 0 X; n = part s 1 21 0 X }
+sin-signed : (s : Bool) (X : ℕ) → as-diff s X ⊠ sin-inner X ≡ record { p = part (not s) 1 terms 0 X; n = part s 1 terms 0 X }
 unfolding _⊠_
-sin-signed false X = both (flat (X * sin-inner X .p) (sin-inner X .n) ∙ power-one X (sin-inner X .p) ∙ sums-p 1 21 0 X) (flat (X * sin-inner X .n) (sin-inner X .p) ∙ power-one X (sin-inner X .n) ∙ sums-n 1 21 0 X)
-sin-signed true X = both (front (X * sin-inner X .n) (sin-inner X .p) ∙ power-one X (sin-inner X .n) ∙ sums-n 1 21 0 X) (front (X * sin-inner X .p) (sin-inner X .n) ∙ power-one X (sin-inner X .p) ∙ sums-p 1 21 0 X)
+sin-signed false X = both (flat (X * sin-inner X .p) (sin-inner X .n) ∙ power-one X (sin-inner X .p) ∙ sums-p 1 terms 0 X) (flat (X * sin-inner X .n) (sin-inner X .p) ∙ power-one X (sin-inner X .n) ∙ sums-n 1 terms 0 X)
+sin-signed true X = both (front (X * sin-inner X .n) (sin-inner X .p) ∙ power-one X (sin-inner X .n) ∙ sums-n 1 terms 0 X) (front (X * sin-inner X .p) (sin-inner X .n) ∙ power-one X (sin-inner X .p) ∙ sums-p 1 terms 0 X)
 
-sin-terms : (s : Bool) (X : ℕ) → ev (sin-poly 21) (as-diff s X) ≡ record { p = part (not s) 1 21 0 X; n = part s 1 21 0 X }
+sin-terms : (s : Bool) (X : ℕ) → ev (sin-poly terms) (as-diff s X) ≡ record { p = part (not s) 1 terms 0 X; n = part s 1 terms 0 X }
 sin-terms s X = sin-opened s X ∙ sin-signed s X
 
-cos-terms : (s : Bool) (X : ℕ) → ev (cos-poly 21) (as-diff s X) ≡ record { p = part true 0 21 0 X; n = part false 0 21 0 X }
+cos-terms : (s : Bool) (X : ℕ) → ev (cos-poly terms) (as-diff s X) ≡ record { p = part true 0 terms 0 X; n = part false 0 terms 0 X }
 unfolding cos-poly
 cos-terms s X =
-    ev-spread (series 0 21 0) (as-diff s X) ∙ ap (λ (y : Diff). ev (series 0 21 0) y) (squared s X)
-    ∙ both (power-none X (ev (series 0 21 0) (record { p = X * X; n = 0 }) .p) ∙ sums-p 0 21 0 X) (power-none X (ev (series 0 21 0) (record { p = X * X; n = 0 }) .n) ∙ sums-n 0 21 0 X)
+    ev-spread (series 0 terms 0) (as-diff s X) ∙ ap (λ (y : Diff). ev (series 0 terms 0) y) (squared s X)
+    ∙ both (power-none X (ev (series 0 terms 0) (record { p = X * X; n = 0 }) .p) ∙ sums-p 0 terms 0 X) (power-none X (ev (series 0 terms 0) (record { p = X * X; n = 0 }) .n) ∙ sums-n 0 terms 0 X)
 
 -- ---- the theorem
 whole-is : most * 2 ^ 1074 ≡ whole
@@ -117,11 +117,11 @@ close-to y q p n e k =
     let i = gathered (units-over (plus (k .sign) (k .units))) (units-over (minus (k .sign) (k .units))) p n whole g in
     record { negative = k .sign; units = k .units; value = k .value; above = i .0; below = i .1 }
 
-pub sin-close : (x : Float) (s : Bool) (X : ℕ) → T (fits binary64 x) → Val x s X → X ≤ 4 * 2 ^ 1074 → Close (sin x) (part (not s) 1 21 0 X) (part s 1 21 0 X)
-sin-close x s X t v h = close-to (sin x) (ev (sin-poly 21) (as-diff s X)) (part (not s) 1 21 0 X) (part s 1 21 0 X) (sin-terms s X) (accurate x s X t v h .sine)
+pub sin-close : (x : Float) (s : Bool) (X : ℕ) → T (fits binary64 x) → Val x s X → X ≤ 4 * 2 ^ 1074 → Close (sin x) (part (not s) 1 terms 0 X) (part s 1 terms 0 X)
+sin-close x s X t v h = close-to (sin x) (ev (sin-poly terms) (as-diff s X)) (part (not s) 1 terms 0 X) (part s 1 terms 0 X) (sin-terms s X) (accurate x s X t v h .sine)
 
-pub cos-close : (x : Float) (s : Bool) (X : ℕ) → T (fits binary64 x) → Val x s X → X ≤ 4 * 2 ^ 1074 → Close (cos x) (part true 0 21 0 X) (part false 0 21 0 X)
-cos-close x s X t v h = close-to (cos x) (ev (cos-poly 21) (as-diff s X)) (part true 0 21 0 X) (part false 0 21 0 X) (cos-terms s X) (accurate x s X t v h .cosine)
+pub cos-close : (x : Float) (s : Bool) (X : ℕ) → T (fits binary64 x) → Val x s X → X ≤ 4 * 2 ^ 1074 → Close (cos x) (part true 0 terms 0 X) (part false 0 terms 0 X)
+cos-close x s X t v h = close-to (cos x) (ev (cos-poly terms) (as-diff s X)) (part true 0 terms 0 X) (part false 0 terms 0 X) (cos-terms s X) (accurate x s X t v h .cosine)
 
 -- every finite f64 is a whole number of units
 in-units : (s : Bool) (m : ℕ) (e : ℤ) → T (fits binary64 (fin s m e)) → (X : ℕ) × Val (fin s m e) s X

@@ -15,6 +15,10 @@ use Rattle.float.specs.Sine.{fact, sin, cos}
 abbrev pub bound : ℕ
 bound = 2 ^ 45
 
+-- "for j = 0 to 20"
+abbrev pub terms : ℕ
+terms = 21
+
 -- what every fraction here is over: 41 ! * (2 ^ 1074) ^ 41
 abbrev pub whole : ℕ
 whole = fact 41 * (2 ^ 1074) ^ 41
@@ -47,11 +51,11 @@ pub record SinGood (x : Float) : Type 0 where
   pub negative : Bool
   pub units : ℕ
   pub value : HasValue x negative units (2 ^ 1074)
-  pub close : units ≤ 4 * 2 ^ 1074 → Close (sin x) (part (not negative) 1 21 0 units) (part negative 1 21 0 units)
+  pub close : units ≤ 4 * 2 ^ 1074 → Close (sin x) (part (not negative) 1 terms 0 units) (part negative 1 terms 0 units)
 
 -- x is finite; if its size is at most 4, the cosine is close to the sum of (-1) ^ j * x ^ (2 j) / (2 j) !, j = 0 to 20
 pub record CosGood (x : Float) : Type 0 where
   pub negative : Bool
   pub units : ℕ
   pub value : HasValue x negative units (2 ^ 1074)
-  pub close : units ≤ 4 * 2 ^ 1074 → Close (cos x) (part true 0 21 0 units) (part false 0 21 0 units)
+  pub close : units ≤ 4 * 2 ^ 1074 → Close (cos x) (part true 0 terms 0 units) (part false 0 terms 0 units)
