@@ -8,9 +8,8 @@ use lib.Dec.{T, eqb}
 use lib.Pow.{pow-add}
 use lib.IntN.{ℤ}
 use lib.Ieee.{Float, nan, inf, fin, binary64, up, down, fits}
-use Rattle.float.specs.Number.{is-finite}
 use Rattle.float.specs.Sine.{fact, sin, cos}
-use Rattle.sine_accuracy.specs.Accuracy.{bound, terms, whole, units-over, term-over, part, Close, SinGood, CosGood}
+use Rattle.sine_accuracy.specs.Accuracy.{bound, terms, whole, units-over, term-over, part, Close, SinesGood, CosinesGood}
 use Rattle.scalar.proofs.Own.{fitting, grid}
 use Rattle.sine_accuracy.proofs.Ops.{Val, plus, minus, Near}
 use Rattle.sine_accuracy.proofs.Poly.{Diff, both, _⊞_, _⊠_, ev, spread, ev-spread, nil-⊞}
@@ -129,12 +128,12 @@ in-units s m e t =
     let g = grid e (fitting s m e t .fine) in
     (m * 2 ^ g .0, (refl, mul-assoc m (up e) (2 ^ 1074) ∙ ap (λ (x : ℕ). m * x) (g .1) ∙ sym (mul-assoc m (2 ^ g .0) (down e))))
 
-pub sin-good : (x : Float) → T (fits binary64 x) → is-finite x ≡ true → SinGood x
+pub sin-good : SinesGood
 sin-good nan t h = absurd (true≢false (sym h))
 sin-good (inf s) t h = absurd (true≢false (sym h))
 sin-good (fin s m e) t h = let i = in-units s m e t in record { negative = s; units = i .0; value = i .1; close = sin-close (fin s m e) s (i .0) t (i .1) }
 
-pub cos-good : (x : Float) → T (fits binary64 x) → is-finite x ≡ true → CosGood x
+pub cos-good : CosinesGood
 cos-good nan t h = absurd (true≢false (sym h))
 cos-good (inf s) t h = absurd (true≢false (sym h))
 cos-good (fin s m e) t h = let i = in-units s m e t in record { negative = s; units = i .0; value = i .1; close = cos-close (fin s m e) s (i .0) t (i .1) }

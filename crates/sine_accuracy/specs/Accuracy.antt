@@ -1,14 +1,16 @@
 -- How good the sine and the cosine are. Document 02, request 4:
 -- "For every finite x with size at most 4, the sine is to be shown within 2^-45 of the exact sum of the terms (-1)^j × x^(2j+1) / (2j+1)! for j = 0 to 20,
 --  taken as a fraction of whole numbers; the cosine likewise with x^(2j) / (2j)!."
--- Statements only: proofs/Shown.antt proves `SinGood x` and `CosGood x` for every finite f64 x (`sin-good`, `cos-good`). `sin` and `cos` are what the functions are proved equal to.
+-- Statements only: `SinesGood` and `CosinesGood` at the end, which proofs/Shown.antt proves (`sin-good`, `cos-good`). `sin` and `cos` are the definitions of `float`, which its functions are proved equal to.
 -- All numbers here are whole. The least f64 above zero is 2 ^ -1074, a unit; every finite f64 is a whole number of units, with a sign.
 -- `HasValue x negative X (2 ^ 1074)` says that x is X / 2 ^ 1074, or - X / 2 ^ 1074 where `negative` is true; an infinity or a NaN is no such fraction.
+use mathlib.Core.Path.{_≡_}
 use Prim.Native.Nat.{ℕ, zero, suc, _+_, _-_, _*_, _/_, _%_, _^_, _≤_}
 use mathlib.Core.Bool.{Bool, true, false, not, Bool·beq, cond}
-use lib.Dec.{eqb}
-use lib.Ieee.{Float}
+use lib.Dec.{T, eqb}
+use lib.Ieee.{Float, binary64, fits}
 use lib.Ieee.Exact.{HasValue}
+use Rattle.float.specs.Number.{is-finite}
 use Rattle.float.specs.Sine.{fact, sin, cos}
 
 -- "within 2^-45" is within 1 / `bound`
@@ -46,16 +48,25 @@ pub record Close (y : Float) (p n : ℕ) : Type 0 where
   pub above : bound * (units-over (cond negative 0 units) + n) ≤ bound * (p + units-over (cond negative units 0)) + whole
   pub below : bound * (p + units-over (cond negative units 0)) ≤ bound * (units-over (cond negative 0 units) + n) + whole
 
--- x is finite; if its size is at most 4, the sine is close to the sum of (-1) ^ j * x ^ (2 j + 1) / (2 j + 1) !, j = 0 to 20: for x not negative that of the terms with even j less that of the others, for x negative the opposite
+-- x is units / 2 ^ 1074, or the opposite where it is negative. If its size is at most 4, the sine is close to the sum of (-1) ^ j * x ^ (2 j + 1) / (2 j + 1) !, j = 0 to 20.
+-- For a negative x each of these odd powers has the other sign
 pub record SinGood (x : Float) : Type 0 where
   pub negative : Bool
   pub units : ℕ
   pub value : HasValue x negative units (2 ^ 1074)
   pub close : units ≤ 4 * 2 ^ 1074 → Close (sin x) (part (not negative) 1 terms 0 units) (part negative 1 terms 0 units)
 
--- x is finite; if its size is at most 4, the cosine is close to the sum of (-1) ^ j * x ^ (2 j) / (2 j) !, j = 0 to 20
+-- likewise, the cosine is close to the sum of (-1) ^ j * x ^ (2 j) / (2 j) !, j = 0 to 20. Even powers have no sign
 pub record CosGood (x : Float) : Type 0 where
   pub negative : Bool
   pub units : ℕ
   pub value : HasValue x negative units (2 ^ 1074)
   pub close : units ≤ 4 * 2 ^ 1074 → Close (cos x) (part true 0 terms 0 units) (part false 0 terms 0 units)
+
+-- "For every finite x with size at most 4, the sine": `fits binary64 x` says that x is an f64
+abbrev pub SinesGood : Type 0
+SinesGood = (x : Float) → T (fits binary64 x) → is-finite x ≡ true → SinGood x
+
+-- "the cosine likewise"
+abbrev pub CosinesGood : Type 0
+CosinesGood = (x : Float) → T (fits binary64 x) → is-finite x ≡ true → CosGood x
