@@ -1,0 +1,11 @@
+pub mod Ops
+pub mod Horner
+pub mod Nested
+pub mod Poly
+pub mod Series
+pub mod Coefs
+pub mod Sums
+pub mod Shift
+pub mod Turn
+pub mod Accuracy
+pub mod Shown
