@@ -6,7 +6,7 @@ ghost use Rattle.answers.specs.Written.{Wrote};
 ghost use Rattle.answers.specs.Held.{read};
 
 // Six angles, and whether they are only the nearest in the sense of least squares.
-#[derive(Drop)]
+#[derive(Clone, Copy)]
 pub struct Answer {
     pub q1: f64,
     pub q2: f64,

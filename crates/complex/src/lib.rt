@@ -3,7 +3,7 @@
 ghost use Rattle.std.specs.Prelude.{◌≡◌};
 ghost use Rattle.complex.specs.Complex.{◌+ᶜ◌, ◌-ᶜ◌, negᶜ, ◌*ᶜ◌, ◌/ᶜ◌, scaleᶜ, overᶜ, real_overᶜ, modulus, absᶜ, polar, sqrtᶜ, cbrtᶜ};
 
-#[derive(Drop)]
+#[derive(Clone, Copy)]
 pub struct Complex {
     pub re: f64,
     pub im: f64,

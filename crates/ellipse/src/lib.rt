@@ -8,7 +8,7 @@ use polynomial::{Matrix2, Vector2, Vector5, real_parts, real_quartic, solve_quar
 use solutionset::{Pair, PairSet4};
 
 // The coefficients of an ellipse: a x x + b x y + c y y + d x + e y + f = 0.
-#[derive(Drop)]
+#[derive(Clone, Copy)]
 pub struct Conic {
     pub a: f64,
     pub b: f64,

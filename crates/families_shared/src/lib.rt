@@ -9,7 +9,7 @@ use kinematics::Kinematics;
 use linear::{Matrix3, Vector3};
 
 // The axes that the families rotate about, normalised once for a solve.
-#[derive(Drop)]
+#[derive(Clone, Copy)]
 pub struct Units {
     pub h1: Vector3,
     pub h2: Vector3,

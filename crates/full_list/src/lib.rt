@@ -21,7 +21,7 @@ const TOLERANCE: f64 = 1e-6;
 
 // How many answers there are, how often the search's error was evaluated, and whether the answers are
 // kept as the search's pairs (q1, i); else as six angles and a byte each.
-#[derive(Drop)]
+#[derive(Clone, Copy)]
 pub struct FullList {
     pub answers: usize,
     pub evals: u64,

@@ -7,7 +7,7 @@ ghost use Rattle.kinematics.specs.Pose.{row_at, pose_rotation, pose_place, rotat
 use linear::{Matrix3, Vector3};
 
 // Six axes and seven offsets: h1 is the Rust's h.column(0), and p0 its p.column(0).
-#[derive(Drop)]
+#[derive(Clone, Copy)]
 pub struct Kinematics {
     pub h1: Vector3,
     pub h2: Vector3,
@@ -26,7 +26,7 @@ pub struct Kinematics {
 
 // A rotation by its rows, and a place. (The rows are fields: a field that is an array of arrays is
 // not covered.)
-#[derive(Drop)]
+#[derive(Clone, Copy)]
 pub struct Pose {
     pub row1: [f64; 3],
     pub row2: [f64; 3],

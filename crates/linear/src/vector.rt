@@ -3,7 +3,7 @@
 ghost use Rattle.std.specs.Prelude.{◌≡◌};
 ghost use Rattle.linear.specs.Vector.{dot, cross, norm, norm_squared, normalize, ◌+ᵛ◌, ◌-ᵛ◌, negᵛ, scaleᵛ, overᵛ, column_sum};
 
-#[derive(Drop)]
+#[derive(Clone, Copy)]
 pub struct Vector3 {
     pub x: f64,
     pub y: f64,

@@ -10,14 +10,14 @@ use answers::Answer;
 use full_list::FullList;
 
 // A refusal (0 is none) and an answer: zeros where it is refused.
-#[derive(Drop)]
+#[derive(Clone, Copy)]
 pub struct One {
     pub refusal: u64,
     pub answer: Answer,
 }
 
 // An answer, or zeros where none was found.
-#[derive(Drop)]
+#[derive(Clone, Copy)]
 pub struct Maybe {
     pub found: bool,
     pub answer: Answer,

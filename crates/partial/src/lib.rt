@@ -8,7 +8,7 @@ use kinematics::{Kinematics, vector_at};
 use linear::{Matrix3, Vector3, apply};
 
 // The arm that is left, and a rotation by its rows.
-#[derive(Drop)]
+#[derive(Clone, Copy)]
 pub struct Partial {
     pub kin: Kinematics,
     pub row1: [f64; 3],
@@ -43,7 +43,7 @@ fn offset(arm: &[f64], n: usize, r_n: Matrix3, i: usize) -> Vector3
     turned
 }
 
-#[derive(Drop)]
+#[derive(Clone, Copy)]
 struct Axes {
     h1: Vector3,
     h2: Vector3,
@@ -53,7 +53,7 @@ struct Axes {
     h6: Vector3,
 }
 
-#[derive(Drop)]
+#[derive(Clone, Copy)]
 struct Offsets {
     p0: Vector3,
     p1: Vector3,

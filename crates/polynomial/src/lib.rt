@@ -18,14 +18,14 @@ pub use quartic_roots::solve_quartic_roots;
 pub use reals::{real_parts, real_quartic};
 pub use triangular::solve_lower_triangular_system_2x2;
 
-#[derive(Drop)]
+#[derive(Clone, Copy)]
 pub struct Vector2 {
     pub x: f64,
     pub y: f64,
 }
 
 // Five numbers, as the coefficients of a quartic from the leading one on.
-#[derive(Drop)]
+#[derive(Clone, Copy)]
 pub struct Vector5 {
     pub a: f64,
     pub b: f64,
@@ -35,7 +35,7 @@ pub struct Vector5 {
 }
 
 // A matrix of two rows: m10 stands in the second row and the first column.
-#[derive(Drop)]
+#[derive(Clone, Copy)]
 pub struct Matrix2 {
     pub m00: f64,
     pub m01: f64,
@@ -44,21 +44,21 @@ pub struct Matrix2 {
 }
 
 // The polynomials P and R of a cone.
-#[derive(Drop)]
+#[derive(Clone, Copy)]
 pub struct Cone {
     pub p: Vector2,
     pub r: Vector3,
 }
 
 // Polynomials with complex coefficients, from the leading one on.
-#[derive(Drop)]
+#[derive(Clone, Copy)]
 pub struct Quadratic {
     pub a: Complex,
     pub b: Complex,
     pub c: Complex,
 }
 
-#[derive(Drop)]
+#[derive(Clone, Copy)]
 pub struct Cubic {
     pub a: Complex,
     pub b: Complex,
@@ -66,7 +66,7 @@ pub struct Cubic {
     pub d: Complex,
 }
 
-#[derive(Drop)]
+#[derive(Clone, Copy)]
 pub struct Quartic {
     pub a: Complex,
     pub b: Complex,
@@ -76,7 +76,7 @@ pub struct Quartic {
 }
 
 // Up to four roots. An unused slot holds (0.0, 0.0).
-#[derive(Drop)]
+#[derive(Clone, Copy)]
 pub struct Roots {
     pub slots: [Complex; 4],
     pub count: usize,

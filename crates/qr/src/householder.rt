@@ -10,7 +10,7 @@ use linear::Vector3;
 use polynomial::Matrix2;
 
 // A reflection of vectors of four: by v, and by v·v. It is skipped where its part is zero.
-#[derive(Drop)]
+#[derive(Clone, Copy)]
 pub struct Reflection4 {
     pub skip: bool,
     pub v: Vector4,
@@ -18,14 +18,14 @@ pub struct Reflection4 {
 }
 
 // A reflection of the last three of four.
-#[derive(Drop)]
+#[derive(Clone, Copy)]
 pub struct Reflection3 {
     pub skip: bool,
     pub v: Vector3,
     pub vv: f64,
 }
 
-#[derive(Drop)]
+#[derive(Clone, Copy)]
 pub struct Columns4 {
     pub c0: Vector4,
     pub c1: Vector4,

@@ -4,7 +4,7 @@ mod householder;
 pub use householder::qr;
 use polynomial::Matrix2;
 
-#[derive(Drop)]
+#[derive(Clone, Copy)]
 pub struct Vector4 {
     pub x: f64,
     pub y: f64,
@@ -13,7 +13,7 @@ pub struct Vector4 {
 }
 
 // The four columns of Q, of which the last two are the null vectors, and R.
-#[derive(Drop)]
+#[derive(Clone, Copy)]
 pub struct QrFactors {
     pub q0: Vector4,
     pub q1: Vector4,

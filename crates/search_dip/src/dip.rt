@@ -16,7 +16,7 @@ use search_pairs::{SearchCounts, put_pair, put_refined};
 
 const INV_PHI: f64 = 0.618033988749895;
 
-#[derive(Drop)]
+#[derive(Clone, Copy)]
 pub struct Valley {
     pub lo: f64,
     pub hi: f64,

@@ -17,7 +17,7 @@ use search_pairs::SearchCounts;
 use search_scan::scan::scan_samples;
 
 // A point of the branch, with its value, and an angle where the branch is not; the evaluations so far.
-#[derive(Drop)]
+#[derive(Clone, Copy)]
 pub struct Gap {
     pub x: f64,
     pub y: f64,
@@ -26,7 +26,7 @@ pub struct Gap {
 }
 
 // How many samples a row has, and the evaluations so far.
-#[derive(Drop)]
+#[derive(Clone, Copy)]
 pub struct Row {
     pub len: usize,
     pub evals: u64,

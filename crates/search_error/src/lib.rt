@@ -13,7 +13,7 @@ const MIN_POSITIVE: f64 = 2.2250738585072014e-308;
 
 // The arm; the axes that are rotated about, normalised; two negations; r_06 by rows; p_16; and the
 // length of p2, or MIN_POSITIVE if that is more.
-#[derive(Drop)]
+#[derive(Clone, Copy)]
 pub struct Fixed {
     pub kin: Kinematics,
     pub u1: Vector3,
@@ -31,7 +31,7 @@ pub struct Fixed {
 
 // What q1 gives to all answers: r_01^T r_06 by rows, the first of subproblem 6's vectors h, and
 // r_01^T p_16 - p1.
-#[derive(Drop)]
+#[derive(Clone, Copy)]
 pub struct GivenQ1 {
     pub row1: [f64; 3],
     pub row2: [f64; 3],

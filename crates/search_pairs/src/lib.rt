@@ -10,7 +10,7 @@ use search_error::Fixed;
 use search_refine::refine::refine_bracket;
 
 // How many pairs are in the lists, and the evaluations so far.
-#[derive(Drop)]
+#[derive(Clone, Copy)]
 pub struct SearchCounts {
     pub pairs: usize,
     pub evals: u64,

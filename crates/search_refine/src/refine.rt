@@ -9,7 +9,7 @@ use float::{abs, is_finite};
 use search_error::{Fixed, error_at};
 
 // An angle, and the evaluations made on the way to it.
-#[derive(Drop)]
+#[derive(Clone, Copy)]
 pub struct Root {
     pub x: f64,
     pub evals: u64,

@@ -34,7 +34,7 @@ fn check_answers(
     }
 }
 
-#[derive(Drop)]
+#[derive(Clone, Copy)]
 struct Counts {
     answers: usize,
     evals: u64,

@@ -15,26 +15,26 @@ pub use pairs::{Pair, PairSet2, PairSet4, PairSlots2, PairSlots4};
 pub use triples::{Triple, TripleSet4, TripleSlots4};
 
 // The solutions of a set in slots, and their number. A slot past the last solution holds 0.0.
-#[derive(Drop)]
+#[derive(Clone, Copy)]
 pub struct Slots2 {
     pub slots: [f64; 2],
     pub count: usize,
 }
 
-#[derive(Drop)]
+#[derive(Clone, Copy)]
 pub struct Slots4 {
     pub slots: [f64; 4],
     pub count: usize,
 }
 
-#[derive(Drop)]
+#[derive(Clone, Copy)]
 pub enum SolutionSet2 {
     Zero,
     One(f64),
     Two(f64, f64),
 }
 
-#[derive(Drop)]
+#[derive(Clone, Copy)]
 pub enum SolutionSet4 {
     Zero,
     One(f64),
@@ -43,7 +43,7 @@ pub enum SolutionSet4 {
     Four(f64, f64, f64, f64),
 }
 
-#[derive(Drop)]
+#[derive(Clone, Copy)]
 pub enum SinCosSet2 {
     Zero,
     One(SinCos),

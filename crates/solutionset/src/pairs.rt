@@ -3,33 +3,33 @@ ghost use Rattle.std.specs.Prelude.{◌≡◌, ◌<◌, ◌≤◌, take};
 ghost use Rattle.solutionset.specs.PairSet2 as PairSet2s;
 ghost use Rattle.solutionset.specs.PairSet4 as PairSet4s;
 
-#[derive(Drop)]
+#[derive(Clone, Copy)]
 pub struct Pair {
     pub first: f64,
     pub second: f64,
 }
 
 // The solutions of a set in slots, and their number. A slot past the last solution holds 0.0.
-#[derive(Drop)]
+#[derive(Clone, Copy)]
 pub struct PairSlots2 {
     pub slots: [Pair; 2],
     pub count: usize,
 }
 
-#[derive(Drop)]
+#[derive(Clone, Copy)]
 pub struct PairSlots4 {
     pub slots: [Pair; 4],
     pub count: usize,
 }
 
-#[derive(Drop)]
+#[derive(Clone, Copy)]
 pub enum PairSet2 {
     Zero,
     One(Pair),
     Two(Pair, Pair),
 }
 
-#[derive(Drop)]
+#[derive(Clone, Copy)]
 pub enum PairSet4 {
     Zero,
     One(Pair),

@@ -2,7 +2,7 @@
 ghost use Rattle.std.specs.Prelude.{◌≡◌, ◌<◌, ◌≤◌, take};
 ghost use Rattle.solutionset.specs.TripleSet4 as TripleSet4s;
 
-#[derive(Drop)]
+#[derive(Clone, Copy)]
 pub struct Triple {
     pub first: f64,
     pub second: f64,
@@ -10,13 +10,13 @@ pub struct Triple {
 }
 
 // The solutions of a set in slots, and their number. A slot past the last solution holds 0.0.
-#[derive(Drop)]
+#[derive(Clone, Copy)]
 pub struct TripleSlots4 {
     pub slots: [Triple; 4],
     pub count: usize,
 }
 
-#[derive(Drop)]
+#[derive(Clone, Copy)]
 pub enum TripleSet4 {
     Zero,
     One(Triple),

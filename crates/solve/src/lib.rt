@@ -10,7 +10,7 @@ use refusals::{judge, refusal_9};
 
 // What a call gives: a refusal (0 is none), the number of answers inside the limits, and the
 // number of evaluations of the search error.
-#[derive(Drop)]
+#[derive(Clone, Copy)]
 pub struct Solved {
     pub refusal: u64,
     pub answers: usize,

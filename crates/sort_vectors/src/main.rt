@@ -18,14 +18,14 @@ const RESULTS: usize = 50;
 
 // A record's candidates: as they stand there, and each with its first number for the ordering value,
 // as which they sort by the triple.
-#[derive(Drop)]
+#[derive(Clone, Copy)]
 struct Candidates {
     solutions: [Triple; 16],
     by_first: [Ordered; 16],
 }
 
 // The passes of the two sorts.
-#[derive(Drop)]
+#[derive(Clone, Copy)]
 struct Passes {
     first: usize,
     second: usize,

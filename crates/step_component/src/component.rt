@@ -14,19 +14,19 @@ use step_edge::edge::{Edge, EdgeNow, EdgeStep, edge_angle, edge_next, edge_way};
 use step_edge::row::last_pair;
 use step_scan::scan::{Scan, ScanNow, ScanStep, scan_angle, scan_next, scan_way};
 
-#[derive(Drop)]
+#[derive(Clone, Copy)]
 pub enum Component {
     InRun(usize, usize, usize, Scan),
     InEdge(usize, usize, Edge),
 }
 
-#[derive(Drop)]
+#[derive(Clone, Copy)]
 pub enum ComponentNow {
     Pause(Component),
     Over,
 }
 
-#[derive(Drop)]
+#[derive(Clone, Copy)]
 pub struct ComponentStep {
     pub now: ComponentNow,
     pub pairs: usize,

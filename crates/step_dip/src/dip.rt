@@ -14,13 +14,13 @@ use search_dip::dip::{Valley, best, left_of, right_of, sign_of};
 use step_pairs::add_pair;
 use step_refine::{RefineWay, Refining};
 
-#[derive(Drop)]
+#[derive(Clone, Copy)]
 pub struct Point {
     pub x: f64,
     pub y: f64,
 }
 
-#[derive(Drop)]
+#[derive(Clone, Copy)]
 pub enum Dip {
     Opening,
     OpenedLeft(f64),
@@ -29,14 +29,14 @@ pub enum Dip {
     After(Refining),
 }
 
-#[derive(Drop)]
+#[derive(Clone, Copy)]
 pub enum DipNow {
     Pause(Dip),
     Over,
 }
 
 // Where a dip has come to, and how many pairs the lists hold.
-#[derive(Drop)]
+#[derive(Clone, Copy)]
 pub struct DipStep {
     pub now: DipNow,
     pub pairs: usize,

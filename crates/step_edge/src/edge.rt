@@ -23,7 +23,7 @@ use step_scan::row::number;
 use step_scan::scan::{Scan, ScanNow, ScanStep, scan_angle, scan_next, scan_way};
 
 // A point of the branch, with its value, and an angle where the branch is not.
-#[derive(Drop)]
+#[derive(Clone, Copy)]
 pub struct Gap {
     pub x: f64,
     pub y: f64,
@@ -31,20 +31,20 @@ pub struct Gap {
 }
 
 // Of the row: how many samples are kept behind the branch's end, or how many there are in all.
-#[derive(Drop)]
+#[derive(Clone, Copy)]
 pub enum Edge {
     Halving(usize, Gap),
     Taking(usize, u64, usize),
     InRow(usize, Scan),
 }
 
-#[derive(Drop)]
+#[derive(Clone, Copy)]
 pub enum EdgeNow {
     Pause(Edge),
     Over,
 }
 
-#[derive(Drop)]
+#[derive(Clone, Copy)]
 pub struct EdgeStep {
     pub now: EdgeNow,
     pub pairs: usize,

@@ -12,13 +12,13 @@ use step_component::component::{
 };
 
 // In component i, of which 3 - i follow.
-#[derive(Drop)]
+#[derive(Clone, Copy)]
 pub enum PhaseNow {
     Pause(u8, Component),
     Over,
 }
 
-#[derive(Drop)]
+#[derive(Clone, Copy)]
 pub struct PhaseStep {
     pub now: PhaseNow,
     pub pairs: usize,

@@ -12,7 +12,7 @@ ghost use Rattle.step_refine.specs.State.{bracket_of, refining_of, way_of};
 use float::{abs, is_finite};
 use search_refine::refine::chord_zero;
 
-#[derive(Drop)]
+#[derive(Clone, Copy)]
 pub struct Bracket {
     pub a: f64,
     pub b: f64,
@@ -23,14 +23,14 @@ pub struct Bracket {
 }
 
 // The bracket whose guess is asked, and how many turns may follow.
-#[derive(Drop)]
+#[derive(Clone, Copy)]
 pub struct Refining {
     pub left: usize,
     pub at: Bracket,
 }
 
 // It asks, or is over with an angle.
-#[derive(Drop)]
+#[derive(Clone, Copy)]
 pub enum RefineWay {
     Pause(Refining),
     Over(f64),

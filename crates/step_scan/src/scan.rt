@@ -15,7 +15,7 @@ use step_dip::dip::{Dip, DipNow, DipStep, dip_angle, dip_next};
 use step_pairs::add_pair;
 use step_refine::{RefineWay, Refining};
 
-#[derive(Drop)]
+#[derive(Clone, Copy)]
 pub enum Scan {
     Crossing(usize, usize, Refining),
     Inner(usize, usize, Dip),
@@ -23,13 +23,13 @@ pub enum Scan {
     First(Dip),
 }
 
-#[derive(Drop)]
+#[derive(Clone, Copy)]
 pub enum ScanNow {
     Pause(Scan),
     Over,
 }
 
-#[derive(Drop)]
+#[derive(Clone, Copy)]
 pub struct ScanStep {
     pub now: ScanNow,
     pub pairs: usize,

@@ -16,7 +16,7 @@ use step_phase::phase::{PhaseNow, PhaseStep, components_way, search_angle, searc
 use step_scan::row::not_a_number;
 
 // Asks the grid's angle k; or is in component i, of which 3 - i follow; or is over.
-#[derive(Drop)]
+#[derive(Clone, Copy)]
 pub enum SearchPhase {
     Sampling(usize),
     Searching(u8, Component),
@@ -24,7 +24,7 @@ pub enum SearchPhase {
 }
 
 // Where the search is, and how many pairs the lists hold.
-#[derive(Drop)]
+#[derive(Clone, Copy)]
 pub struct SearchState {
     pub phase: SearchPhase,
     pub pairs: usize,

@@ -15,7 +15,7 @@ pub type Limits = [f64; 12];
 // How the program stands between two calls: of the block at `place` the first `filled` bytes were
 // read; limits are in force exactly if it is `limited`; of the buffer the bytes from `from` to `to`
 // are still to be written, and as long as there are any nothing is read.
-#[derive(Drop)]
+#[derive(Clone, Copy)]
 pub struct Progress {
     pub place: u64,
     pub limited: bool,
@@ -27,7 +27,7 @@ pub struct Progress {
 }
 
 // What the program asks of the system next.
-#[derive(Drop)]
+#[derive(Clone, Copy)]
 pub enum Ask {
     Write,
     Read,
@@ -35,7 +35,7 @@ pub enum Ask {
 }
 
 // What a call of the system gave: how many bytes it moved, or that it failed.
-#[derive(Drop)]
+#[derive(Clone, Copy)]
 pub enum Heard {
     Bytes(usize),
     Failed,

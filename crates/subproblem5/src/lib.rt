@@ -12,7 +12,7 @@ use subproblems::Columns;
 
 // A circle of subproblem 5: p_s and a times the sine and the cosine. With delta its height along k2,
 // a_k2 the products of a's columns and k2, norm_sq the square of their norm, and j_a_k2 these times j.
-#[derive(Drop)]
+#[derive(Clone, Copy)]
 pub struct Circle {
     pub a: Columns,
     pub p_s: Vector3,
@@ -23,7 +23,7 @@ pub struct Circle {
 }
 
 // A point of a circle: its sine and cosine, the point, and the square of its distance from h * k2.
-#[derive(Drop)]
+#[derive(Clone, Copy)]
 pub struct Point {
     pub sc: Vector2,
     pub v: Vector3,
@@ -31,14 +31,14 @@ pub struct Point {
 }
 
 // The points of both signs.
-#[derive(Drop)]
+#[derive(Clone, Copy)]
 pub struct Points {
     pub plus: Point,
     pub minus: Point,
 }
 
 // The candidates of subproblem 5. An unused slot holds zeros.
-#[derive(Drop)]
+#[derive(Clone, Copy)]
 pub struct Candidates {
     pub slots: [Triple; 16],
     pub count: usize,

@@ -5,7 +5,7 @@ use qr::Vector4;
 pub use sp6::subproblem6;
 
 // The solutions of subproblem 6's equations: x_min and any multiples of the other two.
-#[derive(Drop)]
+#[derive(Clone, Copy)]
 pub struct Plane {
     pub x_min: Vector4,
     pub x_null_1: Vector4,

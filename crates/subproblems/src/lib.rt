@@ -15,26 +15,26 @@ pub use sp3::subproblem3;
 pub use sp4::subproblem4;
 
 // A 3 by 2 matrix.
-#[derive(Drop)]
+#[derive(Clone, Copy)]
 pub struct Columns {
     pub first: Vector3,
     pub second: Vector3,
 }
 
 // An angle, and whether it is a least-squares solution. So too below.
-#[derive(Drop)]
+#[derive(Clone, Copy)]
 pub struct Solved1 {
     pub theta: f64,
     pub is_ls: bool,
 }
 
-#[derive(Drop)]
+#[derive(Clone, Copy)]
 pub struct Solved2 {
     pub set: SolutionSet2,
     pub is_ls: bool,
 }
 
-#[derive(Drop)]
+#[derive(Clone, Copy)]
 pub struct SolvedPairs2 {
     pub set: PairSet2,
     pub is_ls: bool,

@@ -9,13 +9,13 @@ use subproblems::shared::columns;
 use subproblems::subproblem1_is_ls;
 
 // A sine and cosine, and whether they are of a least-squares solution. So too below.
-#[derive(Drop)]
+#[derive(Clone, Copy)]
 pub struct SolvedSinCos {
     pub sc: SinCos,
     pub is_ls: bool,
 }
 
-#[derive(Drop)]
+#[derive(Clone, Copy)]
 pub struct SolvedSinCos2 {
     pub set: SinCosSet2,
     pub is_ls: bool,

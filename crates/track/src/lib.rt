@@ -18,7 +18,7 @@ use sevens::put_seven;
 use solve::Solved;
 
 // The joint that is locked, counted from 0, and its angle.
-#[derive(Drop)]
+#[derive(Clone, Copy)]
 struct Locked {
     joint: usize,
     angle: f64,

@@ -6,7 +6,7 @@ ghost use Rattle.triple_sort.specs.Sort.{number_above, triple_above, ordered_abo
 use solutionset::Triple;
 
 // A candidate of subproblem 5 with the number that decides whether it is kept.
-#[derive(Drop)]
+#[derive(Clone, Copy)]
 pub struct Ordered {
     pub ordering: f64,
     pub solution: Triple,
