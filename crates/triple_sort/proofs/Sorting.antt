@@ -100,8 +100,8 @@ module _ {A : Type 0} (above : A → A → Bool) (orders : Orders above) where
   rest_to_top a [] = tt
   rest_to_top a (b ∷ l) =
       by_test (above a b)
-      (λ t. rw t (orders.through b a (top a l) (orders.one_way a b t) (to_top a l), rest_to_top a l))
-      (λ t. rw t (orders.through a b (top b l) t (to_top b l), rest_to_top b l))
+      (λ t. subst (λ (u : Bool). Every (λ x. above x (top (cond u a b) l) ≡ false) (cond u b a ∷ rest (cond u a b) l)) (sym t) (orders.through b a (top a l) (orders.one_way a b t) (to_top a l), rest_to_top a l))
+      (λ t. subst (λ (u : Bool). Every (λ x. above x (top (cond u a b) l) ≡ false) (cond u b a ∷ rest (cond u a b) l)) (sym t) (orders.through a b (top b l) t (to_top b l), rest_to_top b l))
 
   -- a list in order stays as it is
   carry_sorted : (a : A) (l : List A) → Every (λ y. above a y ≡ false) l → Sorted above l → carry above a l ≡ a ∷ l
