@@ -5,8 +5,7 @@ use lib.Ieee.{Float}
 use borrow.Author.Rules.{rules}
 use Rattle.linear.specs.Matrix.{Matrix, part, array3, row_product, row_apply}
 use Rattle.linear.specs.declared.vector.Vector3.{Vector3}
-use Rattle.linear.proofs.matrix.row_apply.Statement.{statement}
-use Rattle.linear.proofs.matrix.row_apply.Tie as tie
+use Rattle.linear.proofs.matrix.row_apply.Goals as goal
 
 met : (v : Vector3) (a : Matrix) {r : List Float}
     → r ≡ row_product (array3 v.x v.y v.z) a
@@ -14,15 +13,5 @@ met : (v : Vector3) (a : Matrix) {r : List Float}
 unfolding row_apply
 met v a e = rw e
 
-returns : tie.Need-returns
+pub returns : goal.returns
 returns c = search met
-
-pub row-apply-spec : {M : Type 1} → statement M
-row-apply-spec =
-    tie.close
-    (tie.spec
-    (λ _ _. tt)
-    (λ c. search rules)
-    (λ c. search rules)
-    (λ c. search rules)
-    returns)

@@ -8,8 +8,7 @@ use lib.Ieee.Scale.{finite}
 use Rattle.float.specs.Num.{◌⊕◌, ◌⊖◌, ◌⊗◌, nought, one}
 use Rattle.linear.specs.Matrix.{array3, product, rodrigues}
 use Rattle.linear.proofs.Zeros.{Near, same, Like, Null, add_left, add_right, near_add, near_mul, onto, takes_nought, takes_one, null_left, null_right, finite_neg, before, after, twice, entry}
-use Rattle.linear.proofs.matrix.rodrigues.Statement.{statement}
-use Rattle.linear.proofs.matrix.rodrigues.Tie as tie
+use Rattle.linear.proofs.matrix.rodrigues.Goals as goal
 
 threes : {A : Type 0} {a b c a' b' c' : A} → a ≡ a' → b ≡ b' → c ≡ c' → array3 a b c ≡ array3 a' b' c'
 threes p q r = λ i. array3 (p i) (q i) (r i)
@@ -43,7 +42,7 @@ module _ (s c : Float) where
   off : (e w : Float) {x p : Float} → Like (finite w) x p → nought ⊕ e ⊗ s ⊕ x ⊗ (one ⊖ c) ≡ nought ⊕ e ⊗ s ⊕ p ⊗ (one ⊖ c ⊕ nought ⊗ w)
   off e w h = entry (nought ⊕ e ⊗ s) w (one ⊖ c) (takes_nought (e ⊗ s) (m-fits e s)) (sub-fits binary64 one c) h
 
-returns : tie.Need-returns
+pub returns : goal.returns
 unfolding rodrigues product mul of_bits
 returns c₀ =
     let x = c₀.args.k.x in
@@ -65,6 +64,3 @@ returns c₀ =
     (off s c (neg y) y (middle x z (neg_right y) (neg_left y)))
     (off s c x x (first (neg y) (neg z) (null_right x) (null_left x)))
     (on s c (add_right false (neg y ⊗ y ⊕ x ⊗ neg x) (add-fits binary64 (neg y ⊗ y) (x ⊗ neg x))))))
-
-pub rodrigues-spec : {M : Type 1} → statement M
-rodrigues-spec = tie.close (tie.spec returns)

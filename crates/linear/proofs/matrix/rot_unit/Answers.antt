@@ -5,8 +5,7 @@ use Rattle.float.specs.Sine.{sin_cos}
 use Rattle.float.specs.declared.sine.SinCos.{SinCos}
 use Rattle.linear.specs.Matrix.{Matrix, rodrigues, rot_unit}
 use Rattle.linear.specs.declared.vector.Vector3.{Vector3}
-use Rattle.linear.proofs.matrix.rot_unit.Statement.{statement}
-use Rattle.linear.proofs.matrix.rot_unit.Tie as tie
+use Rattle.linear.proofs.matrix.rot_unit.Goals as goal
 
 met : (k : Vector3) (θ : Float) {t : SinCos} {r : Matrix}
     → t ≡ sin_cos θ
@@ -15,13 +14,5 @@ met : (k : Vector3) (θ : Float) {t : SinCos} {r : Matrix}
 unfolding rot_unit sin_cos
 met k θ e1 e2 = rw e1 at e2
 
-returns : tie.Need-returns
+pub returns : goal.returns
 returns c = search met
-
-pub rot-unit-spec : {M : Type 1} → statement M
-rot-unit-spec =
-    tie.close
-    (tie.spec
-    (λ _ _. tt)
-    (λ _ _. tt)
-    returns)
