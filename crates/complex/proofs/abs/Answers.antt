@@ -6,8 +6,7 @@ use Rattle.float.specs.Number.{abs}
 use Rattle.float.proofs.Nan.{none, number}
 use Rattle.complex.specs.Complex.{modulus, absᶜ}
 use Rattle.complex.specs.declared.Complex.{Complex}
-use Rattle.complex.proofs.abs.Statement.{statement}
-use Rattle.complex.proofs.abs.Tie as tie
+use Rattle.complex.proofs.abs.Goals as goal
 
 first-nan : (z : Complex) → ne z.re z.re ≡ true → z.re ≡ absᶜ z
 unfolding absᶜ is_nan
@@ -33,17 +32,14 @@ module _
     unfolding absᶜ
     by-re t e = let m = number z.re h in let n = number z.im k in cc
 
-returns : tie.Need-returns
-returns c = search first-nan
+pub returns-then-x : goal.returns-then-x
+returns-then-x c = search first-nan
 
-returns-2 : tie.Need-returns-2
-returns-2 c = search second-nan
+pub returns-then-y : goal.returns-then-y
+returns-then-y c = search second-nan
 
-returns-3 : tie.Need-returns-3
-returns-3 c = search by-im
+pub returns-then-a-b : goal.returns-then-a-b
+returns-then-a-b c = search by-im
 
-returns-4 : tie.Need-returns-4
-returns-4 c = search by-re
-
-pub abs-spec : {M : Type 1} → statement M
-abs-spec = tie.close (tie.spec returns returns-2 (λ _ _. tt) (λ _ _. tt) (λ _ _. tt) returns-3 (λ _ _. tt) returns-4)
+pub returns : goal.returns
+returns c = search by-re

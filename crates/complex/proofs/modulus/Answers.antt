@@ -5,8 +5,7 @@ use lib.Ieee.{Float, eq}
 use Rattle.float.specs.Num.{◌⊕◌, ◌⊗◌, ◌⊘◌, nought, one}
 use Rattle.float.specs.Root.{sqrt}
 use Rattle.complex.specs.Complex.{modulus}
-use Rattle.complex.proofs.modulus.Statement.{statement}
-use Rattle.complex.proofs.modulus.Tie as tie
+use Rattle.complex.proofs.modulus.Goals as goal
 
 met : (larger smaller : Float) {s : Float}
     → eq larger nought ≡ false
@@ -15,12 +14,9 @@ met : (larger smaller : Float) {s : Float}
 unfolding modulus
 met larger smaller t e = cc
 
-returns : tie.Need-returns
+pub returns-then-larger : goal.returns-then-larger
 unfolding modulus
-returns c = cc
+returns-then-larger c = cc
 
-returns-2 : tie.Need-returns-2
-returns-2 c = search met
-
-pub modulus-spec : {M : Type 1} → statement M
-modulus-spec = tie.close (tie.spec returns (λ _ _. tt) returns-2)
+pub returns : goal.returns
+returns c = search met

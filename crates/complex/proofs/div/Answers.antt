@@ -1,12 +1,8 @@
 -- Both sides are the same operations.
 use mathlib.Core.Path.{refl}
 use Rattle.complex.specs.Complex.{◌/ᶜ◌, ◌*ᶜ◌, overᶜ, conjugate}
-use Rattle.complex.proofs.div.Statement.{statement}
-use Rattle.complex.proofs.div.Tie as tie
+use Rattle.complex.proofs.div.Goals as goal
 
-returns : tie.Need-returns
+pub returns : goal.returns
 unfolding ◌/ᶜ◌ ◌*ᶜ◌ overᶜ conjugate
 returns c = refl
-
-pub div-spec : {M : Type 1} → statement M
-div-spec = tie.close (tie.spec returns)

@@ -6,8 +6,7 @@ use Rattle.float.specs.Sine.{sin_cos}
 use Rattle.float.specs.declared.sine.SinCos.{SinCos}
 use Rattle.complex.specs.Complex.{polar}
 use Rattle.complex.specs.declared.Complex.{Complex}
-use Rattle.complex.proofs.polar.Statement.{statement}
-use Rattle.complex.proofs.polar.Tie as tie
+use Rattle.complex.proofs.polar.Goals as goal
 
 met : (r θ : Float) {t : SinCos}
     → t ≡ sin_cos θ
@@ -15,8 +14,5 @@ met : (r θ : Float) {t : SinCos}
 unfolding polar sin_cos
 met r θ e = rw e
 
-returns : tie.Need-returns
+pub returns : goal.returns
 returns c = search met
-
-pub polar-spec : {M : Type 1} → statement M
-polar-spec = tie.close (tie.spec (λ _ _. tt) returns)

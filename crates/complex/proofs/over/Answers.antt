@@ -1,0 +1,8 @@
+-- Both sides are the same operations.
+use mathlib.Core.Path.{refl}
+use Rattle.complex.specs.Complex.{overᶜ}
+use Rattle.complex.proofs.over.Goals as goal
+
+pub returns : goal.returns
+unfolding overᶜ
+returns c = refl
