@@ -8,8 +8,7 @@ use lib.Ieee.{Float, nan}
 use lib.ListN.{get_or}
 use Rattle.answers.specs.Held.{read}
 use Rattle.answers.specs.declared.Answer.{Answer}
-use Rattle.answers.proofs.read.Statement.{statement}
-use Rattle.answers.proofs.read.Tie as tie
+use Rattle.answers.proofs.read.Goals as goal
 
 met : (a : List Float) (f : List ℕ) (k : ℕ)
     → ◌≡◌ {A = Answer}
@@ -26,30 +25,5 @@ met : (a : List Float) (f : List ℕ) (k : ℕ)
 unfolding read
 met a f k = refl
 
-returns : tie.Need-returns
+pub returns : goal.returns
 returns c = search met
-
-pub read_spec : {M : Type 1} → statement M
-read_spec =
-    tie.close
-    (tie.spec
-    (λ c. search rules)
-    (λ c. search rules)
-    (λ c. search rules)
-    (λ c. search rules)
-    (λ c. search rules)
-    (λ c. search rules)
-    (λ c. search rules)
-    (λ c. search rules)
-    (λ c. search rules)
-    (λ c. search rules)
-    (λ c. search rules)
-    (λ c. search rules)
-    (λ c. search rules)
-    (λ c. search rules)
-    (λ c. search rules)
-    (λ c. search rules)
-    (λ c. search rules)
-    (λ c. search rules)
-    (λ c. search rules)
-    returns)
