@@ -10,14 +10,7 @@ use lib.Dec.{eqb}
 use lib.ListN.{length}
 use Rattle.words.specs.Words.{word}
 use Rattle.words.specs.Port.{same_words}
-use Rattle.words.proofs.same_words.Statement.{statement}
-use Rattle.words.proofs.same_words.Tie as tie
-
-abbrev invariant-loop : tie.invariant-loop
-invariant-loop bytes words w left₀ left = (left ≤ words) × (same_words bytes left w ≡ same_words bytes words w)
-
-abbrev decreases-loop : tie.decreases-loop
-decreases-loop bytes words w left₀ left = left
+use Rattle.words.proofs.same_words.Goals as goal
 
 module _ (bytes : List ℕ) (words w left : ℕ) (inv : same_words bytes left w ≡ same_words bytes words w) where
   ended : left ≤ 0 → true ≡ same_words bytes words w
@@ -35,19 +28,15 @@ module _ (bytes : List ℕ) (words w left : ℕ) (inv : same_words bytes left w 
     next : v ≡ w → same_words bytes (left - 1) w ≡ same_words bytes words w
     next z = let b = eq-eqb v w z in sym (rw b at one) ∙ inv
 
-word-requires : tie.Need-word-requires invariant-loop decreases-loop
-word-requires c κs = omega arith
+pub returns-then-word-w : goal.returns-then-word-w
+returns-then-word-w c = search other
 
-returns : tie.Need-returns invariant-loop decreases-loop
-returns c = search other
+pub loop-left-preserved : goal.loop-left-preserved
+loop-left-preserved c = (omega arith, search next)
 
-loop-again : tie.Need-loop-preserved invariant-loop decreases-loop
-loop-again c = (omega arith, search next)
+pub returns : goal.returns
+returns c = search ended
 
-returns-2 : tie.Need-returns-2 invariant-loop decreases-loop
-returns-2 c = search ended
-
-pub same-words-spec : {M : Type 1} → statement M
-same-words-spec =
-    tie.close
-    (tie.spec invariant-loop decreases-loop (λ c. (omega arith, refl)) (λ c. omega arith) word-requires returns (λ c. omega arith) loop-again returns-2)
+pub loop-left-init : goal.loop-left-init
+loop-left-init c =
+    (omega arith, refl)
