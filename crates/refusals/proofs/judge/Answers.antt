@@ -7,8 +7,7 @@ use borrow.Author.Tests.{eq-eqb, ne_eqb, not-true, not-false}
 use lib.Ieee.{Float}
 use lib.ListN.{length}
 use Rattle.refusals.specs.Judge.{known, samples_fit, all_finite, judge}
-use Rattle.refusals.proofs.judge.Statement.{statement}
-use Rattle.refusals.proofs.judge.Tie as tie
+use Rattle.refusals.proofs.judge.Goals as goal
 
 module _ (family n : ℕ) (arm pose : List Float) {k : Bool} (e-k : k ≡ known family) where
   fourth : not k ≡ true → 4 ≡ judge family n arm pose
@@ -44,39 +43,23 @@ module _ (family n : ℕ) (arm pose : List Float) {k : Bool} (e-k : k ≡ known 
             in-pose : p ≡ false → 8 ≡ judge family n arm pose
             in-pose e = cc (rest, not-false s t', not-false a t'')
 
-returns : tie.Need-returns
-returns c = search fourth
+pub returns-then-not-within : goal.returns-then-not-within
+returns-then-not-within c = search fourth
 
-returns-2 : tie.Need-returns-2
-returns-2 c = search fifth
+pub returns-then-arm-ne39 : goal.returns-then-arm-ne39
+returns-then-arm-ne39 c = search fifth
 
-returns-3 : tie.Need-returns-3
-returns-3 c = search sixth
+pub returns-then-pose-ne12 : goal.returns-then-pose-ne12
+returns-then-pose-ne12 c = search sixth
 
-returns-4 : tie.Need-returns-4
-returns-4 c = search seventh
+pub returns-then-not-samples_fit : goal.returns-then-not-samples_fit
+returns-then-not-samples_fit c = search seventh
 
-returns-5 : tie.Need-returns-5
-returns-5 c = search in-arm
+pub returns-then-not-all_finite : goal.returns-then-not-all_finite
+returns-then-not-all_finite c = search in-arm
 
-returns-6 : tie.Need-returns-6
-returns-6 c = search none
+pub returns-then-all_finite : goal.returns-then-all_finite
+returns-then-all_finite c = search none
 
-returns-7 : tie.Need-returns-7
-returns-7 c = search in-pose
-
-pub judge-spec : {M : Type 1} → statement M
-judge-spec =
-    tie.close
-    (tie.spec
-    (λ _ _. tt)
-    returns
-    returns-2
-    returns-3
-    (λ _ _. tt)
-    returns-4
-    (λ _ _. tt)
-    returns-5
-    (λ _ _. tt)
-    returns-6
-    returns-7)
+pub returns-else-all_finite : goal.returns-else-all_finite
+returns-else-all_finite c = search in-pose

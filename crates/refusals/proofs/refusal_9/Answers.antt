@@ -4,8 +4,7 @@ use mathlib.Core.Path.{◌≡◌}
 use native.Mathlib.Omega.{arith}
 use borrow.Author.Tests.{le-leb, lt-leb}
 use Rattle.refusals.specs.Judge.{refusal_9}
-use Rattle.refusals.proofs.refusal_9.Statement.{statement}
-use Rattle.refusals.proofs.refusal_9.Tie as tie
+use Rattle.refusals.proofs.refusal_9.Goals as goal
 
 module _ (answers sixes bytes : ℕ) where
   few-sixes : sixes < answers → 9 ≡ refusal_9 answers (min sixes bytes)
@@ -17,14 +16,11 @@ module _ (answers sixes bytes : ℕ) where
   enough : answers ≤ sixes → answers ≤ bytes → 0 ≡ refusal_9 answers (min sixes bytes)
   enough h h' = rw (le-leb answers (min sixes bytes) (omega arith))
 
-returns : tie.Need-returns
-returns c = search few-sixes
+pub returns-then-sixes-answers : goal.returns-then-sixes-answers
+returns-then-sixes-answers c = search few-sixes
 
-returns-2 : tie.Need-returns-2
-returns-2 c = search few_bytes
+pub returns-then-bytes-answers : goal.returns-then-bytes-answers
+returns-then-bytes-answers c = search few_bytes
 
-returns-3 : tie.Need-returns-3
-returns-3 c = search enough
-
-pub refusal-9-spec : {M : Type 1} → statement M
-refusal-9-spec = tie.close (tie.spec returns returns-2 returns-3)
+pub returns-else-bytes-answers : goal.returns-else-bytes-answers
+returns-else-bytes-answers c = search enough

@@ -5,8 +5,7 @@ use mathlib.Core.Bool.{Bool}
 use borrow.Author.Tests.{eq-eqb, ne_eqb}
 use lib.Dec.{eqb}
 use Rattle.refusals.specs.Judge.{within, samples_fit}
-use Rattle.refusals.proofs.samples_fit.Statement.{statement}
-use Rattle.refusals.proofs.samples_fit.Tie as tie
+use Rattle.refusals.proofs.samples_fit.Goals as goal
 
 module _ (family n : ℕ) where
   sixth : {r : Bool} → family ≡ 6 → r ≡ within 1 n 400 → r ≡ samples_fit family n
@@ -15,11 +14,8 @@ module _ (family n : ℕ) where
   other : (family ≡ 6 → ⊥) → eqb n 0 ≡ samples_fit family n
   other h = rw (ne_eqb family 6 h)
 
-returns : tie.Need-returns
-returns c = search sixth
+pub returns-then-family-eq6 : goal.returns-then-family-eq6
+returns-then-family-eq6 c = search sixth
 
-returns-2 : tie.Need-returns-2
-returns-2 c = search other
-
-pub samples-fit-spec : {M : Type 1} → statement M
-samples-fit-spec = tie.close (tie.spec (λ _ _. tt) returns returns-2)
+pub returns : goal.returns
+returns c = search other
