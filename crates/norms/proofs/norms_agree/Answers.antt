@@ -7,8 +7,7 @@ use Rattle.float.specs.Number.{abs}
 use Rattle.float.specs.Root.{sqrt}
 use Rattle.norms.specs.Norms.{Near, Far, tolerance}
 use Rattle.norms.proofs.RootGap.{near_below, far_not_below}
-use Rattle.norms.proofs.norms_agree.Statement.{statement}
-use Rattle.norms.proofs.norms_agree.Tie as tie
+use Rattle.norms.proofs.norms_agree.Goals as goal
 
 module _ (a b : Float) where
   close : {r : Bool} → (r ≡ true → Near a b) → r ≡ true → true ≡ lt (abs (sqrt a ⊖ sqrt b)) tolerance
@@ -20,15 +19,11 @@ module _ (a b : Float) where
   by-roots : {x y d : Float} → x ≡ sqrt a → y ≡ sqrt b → d ≡ abs (x ⊖ y) → lt d tolerance ≡ lt (abs (sqrt a ⊖ sqrt b)) tolerance
   by-roots e1 e2 e3 = cc
 
-returns : tie.Need-returns
-returns c = search apart
+pub returns-then-far : goal.returns-then-far
+returns-then-far c = search apart
 
-returns-2 : tie.Need-returns-2
-returns-2 c = search close
+pub returns-then-near : goal.returns-then-near
+returns-then-near c = search close
 
-returns-3 : tie.Need-returns-3
-returns-3 c = search by-roots
-
-pub norms-agree-spec : {M : Type 1} → statement M
-norms-agree-spec =
-    tie.close (tie.spec (λ _ _. tt) returns (λ _ _. tt) returns-2 (λ _ _. tt) (λ _ _. tt) (λ _ _. tt) returns-3)
+pub returns : goal.returns
+returns c = search by-roots

@@ -6,8 +6,7 @@ use Rattle.float.specs.Num.{◌⊖◌, nought, one}
 use Rattle.float.specs.Number.{abs}
 use Rattle.norms.specs.Norms.{Near}
 use Rattle.norms.proofs.RootGap.{two^-42, two^-21, two^60, near_small, near_large}
-use Rattle.norms.proofs.near.Statement.{statement}
-use Rattle.norms.proofs.near.Tie as tie
+use Rattle.norms.proofs.near.Goals as goal
 
 module _ (a b : Float) (za : lt nought a ≡ true) (zb : lt nought b ≡ true) {d : Float} (e : d ≡ abs (a ⊖ b)) where
   small : lt a one ≡ true → lt d two^-42 ≡ true → Near a b
@@ -16,20 +15,17 @@ module _ (a b : Float) (za : lt nought a ≡ true) (zb : lt nought b ≡ true) {
   large : lt a one ≡ false → lt a two^60 ≡ true → lt d two^-21 ≡ true → Near a b
   large l u t = near_large a b za zb l u (rw e at t)
 
-returns : tie.Need-returns
-returns c = search small
+pub returns-then-a-2 : goal.returns-then-a-2
+returns-then-a-2 c = search small
 
-returns-2 : tie.Need-returns-2
-returns-2 c = search large
+pub returns-then-a-3 : goal.returns-then-a-3
+returns-then-a-3 c = search large
 
-returns-3 : tie.Need-returns-3
-returns-3 c = λ t. absurd (false≢true t)
+pub returns-else-a-3 : goal.returns-else-a-3
+returns-else-a-3 c = λ t. absurd (false≢true t)
 
-returns-4 : tie.Need-returns-4
-returns-4 c = λ t. absurd (false≢true t)
+pub returns-else-b : goal.returns-else-b
+returns-else-b c = λ t. absurd (false≢true t)
 
-returns-5 : tie.Need-returns-5
-returns-5 c = λ t. absurd (false≢true t)
-
-pub near-spec : {M : Type 1} → statement M
-near-spec = tie.close (tie.spec (λ _ _. tt) returns (λ _ _. tt) returns-2 returns-3 returns-4 returns-5)
+pub returns-else-a : goal.returns-else-a
+returns-else-a c = λ t. absurd (false≢true t)

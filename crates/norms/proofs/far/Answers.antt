@@ -6,8 +6,7 @@ use Rattle.float.specs.Num.{◌⊖◌, nought, one}
 use Rattle.float.specs.Number.{abs}
 use Rattle.norms.specs.Norms.{Far}
 use Rattle.norms.proofs.RootGap.{two^-17, two^-7, two^20, two^60, far_small, far_large}
-use Rattle.norms.proofs.far.Statement.{statement}
-use Rattle.norms.proofs.far.Tie as tie
+use Rattle.norms.proofs.far.Goals as goal
 
 module _ (a b : Float) (za : lt nought a ≡ true) (zb : lt nought b ≡ true) (v : lt b two^60 ≡ true) {d : Float} (e : d ≡ abs (a ⊖ b)) where
   small : lt a one ≡ true → lt two^-17 d ≡ true → Far a b
@@ -16,25 +15,20 @@ module _ (a b : Float) (za : lt nought a ≡ true) (zb : lt nought b ≡ true) (
   large : lt a two^20 ≡ true → lt two^-7 d ≡ true → Far a b
   large u t = far_large a b za zb v u (rw e at t)
 
-returns : tie.Need-returns
-returns c = search small
+pub returns-then-a-2 : goal.returns-then-a-2
+returns-then-a-2 c = search small
 
-returns-2 : tie.Need-returns-2
-returns-2 c = search large
+pub returns-then-a-3 : goal.returns-then-a-3
+returns-then-a-3 c = search large
 
-returns-3 : tie.Need-returns-3
-returns-3 c = λ t. absurd (false≢true t)
+pub returns-else-a-3 : goal.returns-else-a-3
+returns-else-a-3 c = λ t. absurd (false≢true t)
 
-returns-4 : tie.Need-returns-4
-returns-4 c = λ t. absurd (false≢true t)
+pub returns-else-b-2 : goal.returns-else-b-2
+returns-else-b-2 c = λ t. absurd (false≢true t)
 
-returns-5 : tie.Need-returns-5
-returns-5 c = λ t. absurd (false≢true t)
+pub returns-else-b : goal.returns-else-b
+returns-else-b c = λ t. absurd (false≢true t)
 
-returns-6 : tie.Need-returns-6
-returns-6 c = λ t. absurd (false≢true t)
-
-pub far-spec : {M : Type 1} → statement M
-far-spec =
-    tie.close
-    (tie.spec (λ _ _. tt) returns (λ _ _. tt) returns-2 returns-3 returns-4 returns-5 returns-6)
+pub returns-else-a : goal.returns-else-a
+returns-else-a c = λ t. absurd (false≢true t)
