@@ -3,8 +3,7 @@ use Rattle.std.proofs.Common.{◌≡◌, ℕ, ◌<◌, ◌≤◌, List, length, 
 use Rattle.words.specs.Words.{word}
 use Rattle.block.specs.Check.{check}
 use Rattle.block.specs.Block.{judged}
-use Rattle.block.proofs.damage.Statement.{statement}
-use Rattle.block.proofs.damage.Tie as tie
+use Rattle.block.proofs.damage.Goals as goal
 
 short : (bytes : List ℕ) → length bytes < 512 → 1 ≡ judged bytes 0
 short bytes h = let t = lt-ltb (length bytes) 512 h in cc
@@ -16,20 +15,11 @@ module _ (bytes : List ℕ) {w s : ℕ} (h : 512 ≤ length bytes) (e-w : w ≡ 
   none : w ≡ s → 0 ≡ judged bytes 0
   none right = let t = le-ltb (length bytes) 512 h in let t' = eq-eqb w s right in cc
 
-returns : tie.Need-returns
-returns c = search short
+pub returns-then-bytes-lt512 : goal.returns-then-bytes-lt512
+returns-then-bytes-lt512 c = search short
 
-word-requires : tie.Need-word-requires
-word-requires c κs = search rules
+pub returns-then-word-check : goal.returns-then-word-check
+returns-then-word-check c = search wrong
 
-check-requires : tie.Need-check-requires
-check-requires c κs = search rules
-
-returns-2 : tie.Need-returns-2
-returns-2 c = search wrong
-
-returns-3 : tie.Need-returns-3
-returns-3 c = search none
-
-pub damage-spec : {M : Type 1} → statement M
-damage-spec = tie.close (tie.spec returns word-requires check-requires returns-2 returns-3)
+pub returns : goal.returns
+returns c = search none
