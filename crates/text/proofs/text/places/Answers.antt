@@ -4,14 +4,7 @@ use mathlib.Core.Path.{◌≡◌, refl}
 use native.Mathlib.Omega.{arith}
 use borrow.Author.Tests.{lt-ltb, le-ltb}
 use Rattle.text.specs.Text.{places}
-use Rattle.text.proofs.text.places.Statement.{statement}
-use Rattle.text.proofs.text.places.Tie as tie
-
-abbrev invariant-loop : tie.invariant-loop
-invariant-loop n k₀ rest₀ k rest = (1 ≤ k) × (k ≤ 20) × (places (20 - k) rest + (k - 1) ≡ places 19 n)
-
-abbrev decreases-loop : tie.decreases-loop
-decreases-loop n k₀ rest₀ k rest = 20 - k
+use Rattle.text.proofs.text.places.Goals as goal
 
 start : (n : ℕ) → places (20 - 1) n + (1 - 1) ≡ places 19 n
 start n = omega arith
@@ -35,23 +28,14 @@ module _ (n k rest : ℕ) (low : 1 ≤ k) (inv : places (20 - k) rest + (k - 1) 
   unfolding places
   full h h' = let none : 20 - k ≡ zero = omega arith in let i = rw none at inv in omega arith
 
-loop-holds : tie.Need-loop-init invariant-loop decreases-loop
-loop-holds c = (omega arith, omega arith, search start)
+pub loop-k-init : goal.loop-k-init
+loop-k-init c = (omega arith, omega arith, search start)
 
-returns : tie.Need-returns invariant-loop decreases-loop
-returns c = search last
+pub returns-then-rest-lt10 : goal.returns-then-rest-lt10
+returns-then-rest-lt10 c = search last
 
-add-k : tie.Need-overflow-add-k invariant-loop decreases-loop
-add-k c = omega arith
+pub loop-k-preserved : goal.loop-k-preserved
+loop-k-preserved c = (omega arith, omega arith, search again)
 
-loop-less : tie.Need-loop-smaller invariant-loop decreases-loop
-loop-less c = omega arith
-
-loop-again : tie.Need-loop-preserved invariant-loop decreases-loop
-loop-again c = (omega arith, omega arith, search again)
-
-returns-2 : tie.Need-returns-2 invariant-loop decreases-loop
-returns-2 c = search full
-
-pub places-spec : {M : Type 1} → statement M
-places-spec = tie.close (tie.spec invariant-loop decreases-loop loop-holds returns add-k loop-less loop-again returns-2)
+pub returns : goal.returns
+returns c = search full

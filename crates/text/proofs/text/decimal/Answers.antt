@@ -5,8 +5,7 @@ use mathlib.Core.List.{List}
 use native.Mathlib.Omega.{arith}
 use Rattle.text.specs.Text.{digits, places, decimal, Put}
 use Rattle.text.proofs.Laws.{places_few}
-use Rattle.text.proofs.text.decimal.Statement.{statement}
-use Rattle.text.proofs.text.decimal.Tie as tie
+use Rattle.text.proofs.text.decimal.Goals as goal
 
 fits : (n at : ℕ) {k : ℕ} → k ≡ places 19 n → at + 20 ≤ 106608 → at + k ≤ 106608
 fits n at e h = omega (arith, places_few 19 n)
@@ -18,11 +17,8 @@ met : (n at : ℕ) {k r : ℕ} {out₀ out : List ℕ} → k ≡ places 19 n →
 unfolding decimal
 met n at e p = rw e at p
 
-spell-requires : tie.Need-spell-requires
-spell-requires c κs = (omega arith, omega arith, search fits)
+pub spell-requires : goal.spell-requires
+spell-requires c = (omega arith, omega arith, search fits)
 
-returns : tie.Need-returns
-returns c = (search met, search few)
-
-pub decimal-spec : {M : Type 1} → statement M
-decimal-spec = tie.close (tie.spec (λ _ _. tt) spell-requires returns)
+pub returns : goal.returns
+returns c = record { put = search met; upper_bound = search few }
