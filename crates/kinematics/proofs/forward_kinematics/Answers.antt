@@ -8,8 +8,7 @@ use Rattle.linear.specs.declared.vector.Vector3.{Vector3}
 use Rattle.kinematics.specs.Pose.{pose, joint, forward_kinematics}
 use Rattle.kinematics.specs.declared.Kinematics.{Kinematics}
 use Rattle.kinematics.specs.declared.Pose.{Pose}
-use Rattle.kinematics.proofs.forward_kinematics.Statement.{statement}
-use Rattle.kinematics.proofs.forward_kinematics.Tie as tie
+use Rattle.kinematics.proofs.forward_kinematics.Goals as goal
 
 met : (kin : Kinematics) (theta : List Float) {i : Matrix} {from at1 at2 at3 at4 at5 at6 : Pose}
     → i ≡ identity
@@ -24,43 +23,5 @@ met : (kin : Kinematics) (theta : List Float) {i : Matrix} {from at1 at2 at3 at4
 unfolding forward_kinematics
 met kin theta e e0 e1 e2 e3 e4 e5 e6 = cc
 
-array-read-joint : tie.Need-array-read-joint
-array-read-joint c = search rules
-
-array-read-joint-2 : tie.Need-array-read-joint-2
-array-read-joint-2 c = search rules
-
-array-read-joint-3 : tie.Need-array-read-joint-3
-array-read-joint-3 c = search rules
-
-array-read-joint-4 : tie.Need-array-read-joint-4
-array-read-joint-4 c = search rules
-
-array-read-joint-5 : tie.Need-array-read-joint-5
-array-read-joint-5 c = search rules
-
-array-read-joint-6 : tie.Need-array-read-joint-6
-array-read-joint-6 c = search rules
-
-returns : tie.Need-returns
+pub returns : goal.returns
 returns c = search met
-
-pub forward-kinematics-spec : {M : Type 1} → statement M
-forward-kinematics-spec =
-    tie.close
-    (tie.spec
-    (λ _ _. tt)
-    (λ _ _. tt)
-    array-read-joint
-    (λ _ _. tt)
-    array-read-joint-2
-    (λ _ _. tt)
-    array-read-joint-3
-    (λ _ _. tt)
-    array-read-joint-4
-    (λ _ _. tt)
-    array-read-joint-5
-    (λ _ _. tt)
-    array-read-joint-6
-    (λ _ _. tt)
-    returns)

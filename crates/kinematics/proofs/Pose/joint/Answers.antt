@@ -7,8 +7,7 @@ use Rattle.linear.specs.Vector.{◌+ᵛ◌}
 use Rattle.linear.specs.declared.vector.Vector3.{Vector3}
 use Rattle.kinematics.specs.Pose.{rotation, pose, joint}
 use Rattle.kinematics.specs.declared.Pose.{Pose}
-use Rattle.kinematics.proofs.Pose.joint.Statement.{statement}
-use Rattle.kinematics.proofs.Pose.joint.Tie as tie
+use Rattle.kinematics.proofs.Pose.joint.Goals as goal
 
 met : (s : Pose) (h : Vector3) (t : Float) (offset : Vector3) {r₀ turn r : Matrix} {moved p : Vector3} {s' : Pose}
     → r₀ ≡ rotation s
@@ -21,8 +20,5 @@ met : (s : Pose) (h : Vector3) (t : Float) (offset : Vector3) {r₀ turn r : Mat
 unfolding joint
 met s h t offset e1 e2 e3 e4 e5 e6 = cc
 
-returns : tie.Need-returns
+pub returns : goal.returns
 returns c = search met
-
-pub joint-spec : {M : Type 1} → statement M
-joint-spec = tie.close (tie.spec (λ _ _. tt) (λ _ _. tt) (λ _ _. tt) (λ _ _. tt) (λ _ _. tt) (λ _ _. tt) returns)
