@@ -1,0 +1,20 @@
+-- The slot with the number i holds the solution with that number.
+use mathlib.Core.Path.{ap}
+use native.Mathlib.Omega.{arith}
+use Rattle.solutionset.specs.SolutionSet2.{get_all, few}
+use Rattle.float.specs.Num.{nought}
+use Rattle.solutionset.specs.declared.Slots2.{Slots2}
+use Rattle.solutionset.proofs.Laws.{at_slot}
+use Rattle.solutionset.proofs.SolutionSet2.at.Goals as goal
+
+pub offset_bounds-slots-i : goal.offset_bounds-slots-i
+offset_bounds-slots-i c = omega (arith, few c.before.before.args.self)
+
+pub bounds-slots-i : goal.bounds-slots-i
+bounds-slots-i c = omega (arith, few c.before.before.args.self)
+
+pub returns : goal.returns
+returns c =
+    let start = c.before.before in
+    let laid = ap (λ (r : Slots2). r.slots) c.before.get_all-all.ensures in
+    at_slot 2 nought _ (get_all start.args.self) start.args.i laid start.requires
