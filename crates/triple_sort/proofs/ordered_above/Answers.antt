@@ -3,8 +3,7 @@ use mathlib.Core.Path.{◌≡◌}
 use mathlib.Core.Bool.{Bool, true, false}
 use Rattle.triple_sort.specs.Sort.{number_above, triple_above, ordered_above}
 use Rattle.triple_sort.specs.declared.Ordered.{Ordered}
-use Rattle.triple_sort.proofs.ordered_above.Statement.{statement}
-use Rattle.triple_sort.proofs.ordered_above.Tie as tie
+use Rattle.triple_sort.proofs.ordered_above.Goals as goal
 
 module _ (a b : Ordered) {t1 : Bool} (e1 : t1 ≡ number_above a.ordering b.ordering) where
   above : t1 ≡ true → true ≡ ordered_above a b
@@ -20,15 +19,11 @@ module _ (a b : Ordered) {t1 : Bool} (e1 : t1 ≡ number_above a.ordering b.orde
     unfolding ordered_above
     by-triples t e = cc
 
-returns : tie.Need-returns
-returns c = search above
+pub returns-then-number_above : goal.returns-then-number_above
+returns-then-number_above c = search above
 
-returns-2 : tie.Need-returns-2
-returns-2 c = search below
+pub returns-then-number_above-2 : goal.returns-then-number_above-2
+returns-then-number_above-2 c = search below
 
-returns-3 : tie.Need-returns-3
-returns-3 c = search by-triples
-
-pub ordered-above-spec : {M : Type 1} → statement M
-ordered-above-spec =
-    tie.close (tie.spec (λ _ _. tt) returns (λ _ _. tt) returns-2 (λ _ _. tt) returns-3)
+pub returns : goal.returns
+returns c = search by-triples

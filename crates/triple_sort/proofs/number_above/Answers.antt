@@ -5,8 +5,7 @@ use lib.Ieee.{Float, eq, is_nan, lt}
 use Rattle.scalar.proofs.Order.{by_test, equals_itself}
 use Rattle.triple_sort.specs.Sort.{number_above}
 use Rattle.scalar.proofs.Order.{by_test}
-use Rattle.triple_sort.proofs.number_above.Statement.{statement}
-use Rattle.triple_sort.proofs.number_above.Tie as tie
+use Rattle.triple_sort.proofs.number_above.Goals as goal
 
 module _ (a b : Float) where
   number : eq a a ≡ true → lt b a ≡ number_above a b
@@ -22,11 +21,8 @@ module _ (a b : Float) where
       let f = equals_itself b in
       by_test (is_nan a) (λ n. cc) (λ n. let z : true ≡ false = cc in absurd (true≢false z))
 
-returns : tie.Need-returns
-returns c = search number
+pub returns-then-a : goal.returns-then-a
+returns-then-a c = search number
 
-returns-2 : tie.Need-returns-2
-returns-2 c = search none
-
-pub number-above-spec : {M : Type 1} → statement M
-number-above-spec = tie.close (tie.spec returns returns-2)
+pub returns-else-a : goal.returns-else-a
+returns-else-a c = search none

@@ -4,8 +4,7 @@ use mathlib.Core.Bool.{Bool, true, false}
 use lib.Ieee.{Float}
 use Rattle.solutionset.specs.declared.triples.Triple.{Triple}
 use Rattle.triple_sort.specs.Sort.{number_above, triple_above}
-use Rattle.triple_sort.proofs.triple_above.Statement.{statement}
-use Rattle.triple_sort.proofs.triple_above.Tie as tie
+use Rattle.triple_sort.proofs.triple_above.Goals as goal
 
 module _ (a b : Triple) {t1 : Bool} (e1 : t1 ≡ number_above a.first b.first) where
   first_above : t1 ≡ true → true ≡ triple_above a b
@@ -31,32 +30,17 @@ module _ (a b : Triple) {t1 : Bool} (e1 : t1 ≡ number_above a.first b.first) w
         unfolding triple_above
         third t e = cc
 
-returns : tie.Need-returns
-returns c = search first_above
+pub returns-then-number_above : goal.returns-then-number_above
+returns-then-number_above c = search first_above
 
-returns-2 : tie.Need-returns-2
-returns-2 c = search first_below
+pub returns-then-number_above-2 : goal.returns-then-number_above-2
+returns-then-number_above-2 c = search first_below
 
-returns-3 : tie.Need-returns-3
-returns-3 c = search second_above
+pub returns-then-number_above-3 : goal.returns-then-number_above-3
+returns-then-number_above-3 c = search second_above
 
-returns-4 : tie.Need-returns-4
-returns-4 c = search second_below
+pub returns-then-number_above-4 : goal.returns-then-number_above-4
+returns-then-number_above-4 c = search second_below
 
-returns-5 : tie.Need-returns-5
-returns-5 c = search third
-
-pub triple-above-spec : {M : Type 1} → statement M
-triple-above-spec =
-    tie.close
-    (tie.spec
-    (λ _ _. tt)
-    returns
-    (λ _ _. tt)
-    returns-2
-    (λ _ _. tt)
-    returns-3
-    (λ _ _. tt)
-    returns-4
-    (λ _ _. tt)
-    returns-5)
+pub returns : goal.returns
+returns c = search third

@@ -10,17 +10,8 @@ use Rattle.triple_sort.specs.Port.{at_front, in_order}
 use Rattle.triple_sort.specs.Sort.{ordered_above, pass, passes, sort}
 use Rattle.triple_sort.specs.declared.Ordered.{Ordered}
 use Rattle.triple_sort.proofs.Passes.{length_pass, length_front_of, pass_more}
-use Rattle.triple_sort.proofs.sort.Statement.{statement}
-use Rattle.triple_sort.proofs.sort.Tie as tie
-
-abbrev all : ℕ → ℕ → List Ordered → List Ordered
-all n k t = at_front n (passes ordered_above k) t
-
-abbrev invariant-loop : tie.invariant-loop
-invariant-loop n t₀ k₀ t k = (1 ≤ k) × (length t ≡ 16) × (all n (n - k) t ≡ all n (n - 1) t₀)
-
-abbrev decreases-loop : tie.decreases-loop
-decreases-loop n t₀ k₀ t k = n - k
+use Rattle.triple_sort.proofs.sort.Goals as goal
+use Rattle.triple_sort.proofs.sort.Invariants.{all}
 
 module _ (n k : ℕ) (t t₀ : List Ordered) (f : n ≤ 16) (l : length t ≡ 16) where
   module _ {u : List Ordered} (e : u ≡ at_front n (pass ordered_above) t) where
@@ -41,16 +32,11 @@ end n k t t₀ f l h inv =
     let m : length (take n t₀) ≡ n = length-take-le n t₀ (omega arith) in
     sym (take-append-drop n t) ∙ rw m i
 
-loop-holds : tie.Need-loop-init invariant-loop decreases-loop
-loop-holds c = (omega arith, search rules, refl)
+pub loop-k-init : goal.loop-k-init
+loop-k-init c = (omega arith, search rules, refl)
 
-loop-again : tie.Need-loop-preserved invariant-loop decreases-loop
-loop-again c = (omega arith, search same_length, search again)
+pub loop-k-preserved : goal.loop-k-preserved
+loop-k-preserved c = (omega arith, search same_length, search again)
 
-returns : tie.Need-returns invariant-loop decreases-loop
+pub returns : goal.returns
 returns c = search end
-
-pub sort-spec : {M : Type 1} → statement M
-sort-spec =
-    tie.close
-    (tie.spec invariant-loop decreases-loop loop-holds (λ c κs. search rules) (λ c. search rules) (λ c. search rules) loop-again returns)

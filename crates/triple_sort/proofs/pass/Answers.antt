@@ -4,7 +4,6 @@ use native.Mathlib.Omega.{arith}
 use mathlib.Core.Path.{◌≡◌, refl, ◌∙◌}
 use mathlib.Core.Bool.{Bool, true, false}
 use mathlib.Core.List.{List}
-use mathlib.Core.Logic.{⊎_elim}
 use lib.Ieee.{nan}
 use lib.ListN.{length, get_or, set}
 use borrow.Author.Rules.{rules}
@@ -12,20 +11,9 @@ use Rattle.triple_sort.specs.Port.{at_front}
 use Rattle.triple_sort.specs.Sort.{ordered_above, pass}
 use Rattle.triple_sort.specs.declared.Ordered.{Ordered}
 use Rattle.triple_sort.proofs.Passes.{exchange_at, pass_from, pass_is}
-use Rattle.triple_sort.proofs.pass.Statement.{statement}
-use Rattle.triple_sort.proofs.pass.Tie as tie
-
-abbrev outside : Ordered
-outside = record { ordering = nan; solution = record { first = nan; second = nan; third = nan } }
-
-abbrev from : ℕ → ℕ → List Ordered → List Ordered
-from k i t = pass_from ordered_above outside k i t
-
-abbrev invariant-loop : tie.invariant-loop
-invariant-loop n t₀ j₀ t j = (1 ≤ j) × (from (n - j) (j - 1) t ≡ from (n - 1) 0 t₀)
-
-abbrev decreases-loop : tie.decreases-loop
-decreases-loop n t₀ j₀ t j = n - j
+use Rattle.triple_sort.proofs.pass.Goals as goal
+use Rattle.triple_sort.proofs.pass.Goals.{then-ordered_above, else-ordered_above}
+use Rattle.triple_sort.proofs.pass.Invariants.{from, outside}
 
 module _ (n j : ℕ) (t t₀ : List Ordered) (s : 1 ≤ j) (h : j < n) (inv : from (n - j) (j - 1) t ≡ from (n - 1) 0 t₀) where
   next : {u : List Ordered} → u ≡ exchange_at ordered_above outside (j - 1) t → from (n - (j + 1)) (j + 1 - 1) u ≡ from (n - 1) 0 t₀
@@ -51,42 +39,19 @@ end n j t t₀ f l h inv =
     let over : n - j ≡ 0 = omega arith in
     (rw over at inv) ∙ pass_is ordered_above outside n t₀ (omega arith)
 
-loop-holds : tie.Need-loop-init invariant-loop decreases-loop
-loop-holds c = (omega arith, refl)
+pub loop-j-init : goal.loop-j-init
+loop-j-init c = (omega arith, refl)
 
-loop-again : tie.Need-loop-preserved invariant-loop decreases-loop
-loop-again c =
+pub loop-j-preserved : goal.loop-j-preserved
+loop-j-preserved c =
     let p1 = c.before in
     let p4 = p1.before.before.before in
     let p5 = p4.before in
-    let s = p5.loop.invariant.0 in
-    let i = p5.loop.invariant.1 in
-    let h = p4.loop-test.true in
+    let s = p5.loop-j.invariant.0 in
+    let i = p5.loop-j.invariant.1 in
+    let h = p4.loop-j-test.true in
     let e = p1.ordered_above.ensures in
-    (omega arith, ⊎_elim (λ w. swapped _ _ _ _ s h i e w.0.taken w.1) (λ w. kept _ _ _ _ s h i e w.0.left w.1) c.if1.branch)
+    (omega arith, elim c.if-ordered_above.branch [ then-ordered_above w ↦ swapped _ _ _ _ s h i e w.if-ordered_above.true w.t-is | else-ordered_above w ↦ kept _ _ _ _ s h i e w.if-ordered_above.false w.t-is ])
 
-returns : tie.Need-returns invariant-loop decreases-loop
+pub returns : goal.returns
 returns c = search end
-
-pub pass_spec : {M : Type 1} → statement M
-pass_spec =
-    tie.close
-    (tie.spec
-    invariant-loop
-    decreases-loop
-    loop-holds
-    (λ c. search rules)
-    (λ c. search rules)
-    (λ c. search rules)
-    (λ c. search rules)
-    (λ c. search rules)
-    (λ _ _. tt)
-    (λ c. search rules)
-    (λ c. search rules)
-    (λ c. search rules)
-    (λ c. search rules)
-    (λ c. search rules)
-    (λ c. search rules)
-    (λ c. search rules)
-    loop-again
-    returns)

@@ -1,0 +1,27 @@
+-- The invariant: what is left of the pass gives what all of it gives.
+use Prim.Native.Nat.{ℕ, suc, ◌+◌, ◌-◌, ◌≤◌, ◌<◌}
+use native.Mathlib.Omega.{arith}
+use mathlib.Core.Path.{◌≡◌, refl, ◌∙◌}
+use mathlib.Core.Bool.{Bool, true, false}
+use mathlib.Core.List.{List}
+use mathlib.Core.Logic.{⊎_elim}
+use lib.Ieee.{nan}
+use lib.ListN.{length, get_or, set}
+use borrow.Author.Rules.{rules}
+use Rattle.triple_sort.specs.Port.{at_front}
+use Rattle.triple_sort.specs.Sort.{ordered_above, pass}
+use Rattle.triple_sort.specs.declared.Ordered.{Ordered}
+use Rattle.triple_sort.proofs.Passes.{exchange_at, pass_from, pass_is}
+use Rattle.triple_sort.proofs.pass.Given as goal
+
+abbrev pub outside : Ordered
+outside = record { ordering = nan; solution = record { first = nan; second = nan; third = nan } }
+
+abbrev pub from : ℕ → ℕ → List Ordered → List Ordered
+from k i t = pass_from ordered_above outside k i t
+
+abbrev pub invariant-loop-j : goal.invariant-loop-j
+invariant-loop-j l = (1 ≤ l.j) × (from (l.n - l.j) (l.j - 1) l.t ≡ from (l.n - 1) 0 l.initial.t)
+
+abbrev pub decreases-loop-j : goal.decreases-loop-j
+decreases-loop-j l = l.n - l.j

@@ -1,0 +1,22 @@
+-- The invariant: the passes that are left give what all give.
+use Prim.Native.Nat.{ℕ, suc, ◌+◌, ◌-◌, ◌≤◌, ◌<◌}
+use native.Mathlib.Omega.{arith}
+use mathlib.Core.Path.{◌≡◌, refl, sym, ◌∙◌}
+use mathlib.Core.List.{List}
+use lib.ListN.{length, take, drop, take-append-drop}
+use lib.Seq.{length-take-le}
+use borrow.Author.Rules.{rules}
+use Rattle.triple_sort.specs.Port.{at_front, in_order}
+use Rattle.triple_sort.specs.Sort.{ordered_above, pass, passes, sort}
+use Rattle.triple_sort.specs.declared.Ordered.{Ordered}
+use Rattle.triple_sort.proofs.Passes.{length_pass, length_front_of, pass_more}
+use Rattle.triple_sort.proofs.sort.Given as goal
+
+abbrev pub all : ℕ → ℕ → List Ordered → List Ordered
+all n k t = at_front n (passes ordered_above k) t
+
+abbrev pub invariant-loop-k : goal.invariant-loop-k
+invariant-loop-k l = (1 ≤ l.k) × (length l.t ≡ 16) × (all l.n (l.n - l.k) l.t ≡ all l.n (l.n - 1) l.initial.t)
+
+abbrev pub decreases-loop-k : goal.decreases-loop-k
+decreases-loop-k l = l.n - l.k
