@@ -11,8 +11,7 @@ use Rattle.kinematics.specs.Pose.{forward_kinematics}
 use Rattle.kinematics.specs.declared.Kinematics.{Kinematics}
 use Rattle.kinematics.specs.declared.Pose.{Pose}
 use Rattle.forward.specs.Forward.{pose_numbers, forward_refusal, forward_pose}
-use Rattle.forward.proofs.forward.Statement.{statement}
-use Rattle.forward.proofs.forward.Tie as tie
+use Rattle.forward.proofs.forward.Goals as goal
 
 module _ (arm angles pose : List Float) where
   module _ (h : length arm ≡ 39 → ⊥) where
@@ -47,43 +46,14 @@ module _ (arm angles pose : List Float) where
             let t : forward_pose arm angles pose ≡ pose_numbers (forward_kinematics (from_numbers arm) angles) = rw (eq-eqb (length arm) 39 a, eq-eqb (length pose) 12 p, eq-eqb (length angles) 6 h) in
             rw (t, e-l, e-s, e-k, e-q)
 
-returns : tie.Need-returns
-returns c = (search five, search five-kept)
+pub returns-then-arm-ne39 : goal.returns-then-arm-ne39
+returns-then-arm-ne39 c = record { result = search five; pose = search five-kept }
 
-returns-2 : tie.Need-returns-2
-returns-2 c = (search other, search other-kept)
+pub returns-then-pose-ne12 : goal.returns-then-pose-ne12
+returns-then-pose-ne12 c = record { result = search other; pose = search other-kept }
 
-returns-3 : tie.Need-returns-3
-returns-3 c = (search eighteen, search eighteen-kept)
+pub returns-then-angles-ne6 : goal.returns-then-angles-ne6
+returns-then-angles-ne6 c = record { result = search eighteen; pose = search eighteen-kept }
 
-from-numbers-requires : tie.Need-from-numbers-requires
-from-numbers-requires c κs = search rules
-
-six-requires : tie.Need-six-requires
-six-requires c κs = search rules
-
-forward-kinematics-requires : tie.Need-forward-kinematics-requires
-forward-kinematics-requires c κs = search rules
-
-put-pose-requires : tie.Need-put-pose-requires
-put-pose-requires c κs = search rules
-
-same_length : tie.Need-same-length
-same_length c = search rules
-
-returns-4 : tie.Need-returns-4
-returns-4 c = (search none, search put)
-
-pub forward-spec : {M : Type 1} → statement M
-forward-spec =
-    tie.close
-    (tie.spec
-    returns
-    returns-2
-    returns-3
-    from-numbers-requires
-    six-requires
-    forward-kinematics-requires
-    put-pose-requires
-    same_length
-    returns-4)
+pub returns : goal.returns
+returns c = record { result = search none; pose = search put }
