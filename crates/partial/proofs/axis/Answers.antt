@@ -12,8 +12,7 @@ use Rattle.linear.specs.Vector.{◌+ᵛ◌}
 use Rattle.linear.specs.declared.vector.Vector3.{Vector3}
 use Rattle.partial.specs.Partial.{h}
 use Rattle.partial.specs.Columns.{axis}
-use Rattle.partial.proofs.axis.Statement.{statement}
-use Rattle.partial.proofs.axis.Tie as tie
+use Rattle.partial.proofs.axis.Goals as goal
 
 module _ (arm : List Float) (n : ℕ) (r : Matrix) (i : ℕ) where
   before : {v : Vector3} → i < n → v ≡ h arm i → v ≡ axis arm n r i
@@ -24,11 +23,8 @@ module _ (arm : List Float) (n : ℕ) (r : Matrix) (i : ℕ) where
   unfolding axis
   behind l e e' = rw (le-ltb i n l, ← e) e'
 
-returns : tie.Need-returns
-returns c = search before
+pub returns-then-i-n : goal.returns-then-i-n
+returns-then-i-n c = search before
 
-returns-2 : tie.Need-returns-2
-returns-2 c = search behind
-
-pub axis-spec : {M : Type 1} → statement M
-axis-spec = tie.close (tie.spec (λ c. search rules) (λ c κs. search rules) returns (λ c. search rules) (λ c. search rules) (λ c κs. search rules) (λ c κs. search rules) returns-2)
+pub returns : goal.returns
+returns c = search behind

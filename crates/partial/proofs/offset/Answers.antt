@@ -12,8 +12,7 @@ use Rattle.linear.specs.Vector.{◌+ᵛ◌}
 use Rattle.linear.specs.declared.vector.Vector3.{Vector3}
 use Rattle.partial.specs.Partial.{p}
 use Rattle.partial.specs.Columns.{offset}
-use Rattle.partial.proofs.offset.Statement.{statement}
-use Rattle.partial.proofs.offset.Tie as tie
+use Rattle.partial.proofs.offset.Goals as goal
 
 module _ (arm : List Float) (n : ℕ) (r : Matrix) (i : ℕ) {here : Vector3} (e : here ≡ p arm i) where
   before : i < n → here ≡ offset arm n r i
@@ -29,14 +28,11 @@ module _ (arm : List Float) (n : ℕ) (r : Matrix) (i : ℕ) {here : Vector3} (e
     unfolding offset
     behind s = rw (le-ltb i n l, ne_eqb i n s, ← e-n) e-t
 
-returns : tie.Need-returns
-returns c = search before
+pub returns-then-i-n : goal.returns-then-i-n
+returns-then-i-n c = search before
 
-returns-2 : tie.Need-returns-2
-returns-2 c = search both
+pub returns-then-i-n-2 : goal.returns-then-i-n-2
+returns-then-i-n-2 c = search both
 
-returns-3 : tie.Need-returns-3
-returns-3 c = search behind
-
-pub offset-spec : {M : Type 1} → statement M
-offset-spec = tie.close (tie.spec (λ c. search rules) (λ c. search rules) (λ c κs. search rules) returns (λ c. search rules) (λ c. search rules) (λ c. search rules) (λ c κs. search rules) (λ c κs. search rules) (λ c κs. search rules) returns-2 returns-3)
+pub returns : goal.returns
+returns c = search behind

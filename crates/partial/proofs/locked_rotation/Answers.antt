@@ -11,15 +11,11 @@ use Rattle.linear.specs.Matrix.{Matrix, rot}
 use Rattle.linear.specs.Vector.{◌+ᵛ◌}
 use Rattle.linear.specs.declared.vector.Vector3.{Vector3}
 use Rattle.partial.specs.Partial.{h, locked_rotation}
-use Rattle.partial.proofs.locked_rotation.Statement.{statement}
-use Rattle.partial.proofs.locked_rotation.Tie as tie
+use Rattle.partial.proofs.locked_rotation.Goals as goal
 
 met : (arm : List Float) (q : Float) (n : ℕ) {v : Vector3} {r : Matrix} → v ≡ h arm n → r ≡ rot v q → r ≡ locked_rotation arm q n
 unfolding locked_rotation
 met arm q n e e' = rw (← e) e'
 
-returns : tie.Need-returns
+pub returns : goal.returns
 returns c = search met
-
-pub locked-rotation-spec : {M : Type 1} → statement M
-locked-rotation-spec = tie.close (tie.spec (λ c. search rules) (λ c κs. search rules) (λ c κs. search rules) returns)

@@ -8,8 +8,7 @@ use Rattle.linear.specs.Matrix.{Matrix}
 use Rattle.linear.specs.declared.vector.Vector3.{Vector3}
 use Rattle.partial.specs.Columns.{offset, offsets}
 use Rattle.partial.specs.declared.Offsets.{Offsets}
-use Rattle.partial.proofs.new_offsets.Statement.{statement}
-use Rattle.partial.proofs.new_offsets.Tie as tie
+use Rattle.partial.proofs.new_offsets.Goals as goal
 
 met : (arm : List Float) (n : ℕ) (r : Matrix) {a0 a1 a2 a3 a4 a5 a6 : Vector3}
     → a0 ≡ offset arm n r 0
@@ -23,8 +22,33 @@ met : (arm : List Float) (n : ℕ) (r : Matrix) {a0 a1 a2 a3 a4 a5 a6 : Vector3}
 unfolding offsets
 met arm n r ea0 ea1 ea2 ea3 ea4 ea5 ea6 = rw (ea0, ea1, ea2, ea3, ea4, ea5, ea6)
 
-returns : tie.Need-returns
+pub returns : goal.returns
 returns c = search met
 
-pub new-offsets-spec : {M : Type 1} → statement M
-new-offsets-spec = tie.close (tie.spec (λ c κs. (omega arith, omega arith)) (λ c κs. (omega arith, omega arith)) (λ c κs. (omega arith, omega arith)) (λ c κs. (omega arith, omega arith)) (λ c κs. (omega arith, omega arith)) (λ c κs. (omega arith, omega arith)) (λ c κs. (omega arith, omega arith)) returns)
+pub offset-requires : goal.offset-requires
+offset-requires c =
+    (omega arith, omega arith)
+
+pub offset-requires-2 : goal.offset-requires-2
+offset-requires-2 c =
+    (omega arith, omega arith)
+
+pub offset-requires-3 : goal.offset-requires-3
+offset-requires-3 c =
+    (omega arith, omega arith)
+
+pub offset-requires-4 : goal.offset-requires-4
+offset-requires-4 c =
+    (omega arith, omega arith)
+
+pub offset-requires-5 : goal.offset-requires-5
+offset-requires-5 c =
+    (omega arith, omega arith)
+
+pub offset-requires-6 : goal.offset-requires-6
+offset-requires-6 c =
+    (omega arith, omega arith)
+
+pub offset-requires-7 : goal.offset-requires-7
+offset-requires-7 c =
+    (omega arith, omega arith)

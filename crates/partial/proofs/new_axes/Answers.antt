@@ -8,8 +8,7 @@ use Rattle.linear.specs.Matrix.{Matrix}
 use Rattle.linear.specs.declared.vector.Vector3.{Vector3}
 use Rattle.partial.specs.Columns.{axis, axes}
 use Rattle.partial.specs.declared.Axes.{Axes}
-use Rattle.partial.proofs.new_axes.Statement.{statement}
-use Rattle.partial.proofs.new_axes.Tie as tie
+use Rattle.partial.proofs.new_axes.Goals as goal
 
 met : (arm : List Float) (n : ℕ) (r : Matrix) {a0 a1 a2 a3 a4 a5 : Vector3}
     → a0 ≡ axis arm n r 0
@@ -22,8 +21,29 @@ met : (arm : List Float) (n : ℕ) (r : Matrix) {a0 a1 a2 a3 a4 a5 : Vector3}
 unfolding axes
 met arm n r ea0 ea1 ea2 ea3 ea4 ea5 = rw (ea0, ea1, ea2, ea3, ea4, ea5)
 
-returns : tie.Need-returns
+pub returns : goal.returns
 returns c = search met
 
-pub new-axes-spec : {M : Type 1} → statement M
-new-axes-spec = tie.close (tie.spec (λ c κs. (omega arith, omega arith)) (λ c κs. (omega arith, omega arith)) (λ c κs. (omega arith, omega arith)) (λ c κs. (omega arith, omega arith)) (λ c κs. (omega arith, omega arith)) (λ c κs. (omega arith, omega arith)) returns)
+pub axis-requires : goal.axis-requires
+axis-requires c =
+    (omega arith, omega arith)
+
+pub axis-requires-2 : goal.axis-requires-2
+axis-requires-2 c =
+    (omega arith, omega arith)
+
+pub axis-requires-3 : goal.axis-requires-3
+axis-requires-3 c =
+    (omega arith, omega arith)
+
+pub axis-requires-4 : goal.axis-requires-4
+axis-requires-4 c =
+    (omega arith, omega arith)
+
+pub axis-requires-5 : goal.axis-requires-5
+axis-requires-5 c =
+    (omega arith, omega arith)
+
+pub axis-requires-6 : goal.axis-requires-6
+axis-requires-6 c =
+    (omega arith, omega arith)

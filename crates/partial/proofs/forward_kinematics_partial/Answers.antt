@@ -8,8 +8,7 @@ use Rattle.linear.specs.Matrix.{Matrix, row, product}
 use Rattle.kinematics.specs.declared.Kinematics.{Kinematics}
 use Rattle.partial.specs.Partial.{kin_new, locked_rotation, forward_kinematics_partial}
 use Rattle.partial.specs.declared.Partial.{Partial}
-use Rattle.partial.proofs.forward_kinematics_partial.Statement.{statement}
-use Rattle.partial.proofs.forward_kinematics_partial.Tie as tie
+use Rattle.partial.proofs.forward_kinematics_partial.Goals as goal
 
 met : (arm : List Float) (q : Float) (n : ℕ) (r-6t : Matrix) {r-n r : Matrix} {kin : Kinematics}
     → r-n ≡ locked_rotation arm q n
@@ -19,8 +18,5 @@ met : (arm : List Float) (q : Float) (n : ℕ) (r-6t : Matrix) {r-n r : Matrix} 
 unfolding forward_kinematics_partial
 met arm q n r-6t e e-r e-k = rw (← e, ← e-r, e-k)
 
-returns : tie.Need-returns
+pub returns : goal.returns
 returns c = search met
-
-pub forward-kinematics-partial-spec : {M : Type 1} → statement M
-forward-kinematics-partial-spec = tie.close (tie.spec (λ c κs. search rules) (λ c κs. search rules) (λ c. search rules) (λ c. search rules) (λ c. search rules) (λ c κs. search rules) returns)

@@ -10,14 +10,10 @@ use Rattle.partial.specs.Columns.{axes, offsets}
 use Rattle.partial.specs.declared.Axes.{Axes}
 use Rattle.partial.specs.declared.Offsets.{Offsets}
 use Rattle.partial.proofs.Closed.{of_columns, columns}
-use Rattle.partial.proofs.kin_new.Statement.{statement}
-use Rattle.partial.proofs.kin_new.Tie as tie
+use Rattle.partial.proofs.kin_new.Goals as goal
 
 met : (arm : List Float) (n : ℕ) (r : Matrix) {a : Axes} {o : Offsets} → n ≤ 6 → a ≡ axes arm n r → o ≡ offsets arm n r → of_columns a o ≡ kin_new arm n r
 met arm n r h e-a e-o = rw (e-a, e-o) (sym (columns arm r n h))
 
-returns : tie.Need-returns
+pub returns : goal.returns
 returns c = search met
-
-pub kin-new-spec : {M : Type 1} → statement M
-kin-new-spec = tie.close (tie.spec (λ c κs. search rules) (λ c κs. search rules) returns)
