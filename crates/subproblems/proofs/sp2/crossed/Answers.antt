@@ -9,8 +9,7 @@ use Rattle.solutionset.specs.declared.SolutionSet2.TheVariants.{Zero, One, Two}
 use Rattle.solutionset.specs.declared.pairs.PairSet2.{PairSet2}
 use Rattle.solutionset.specs.declared.pairs.PairSet2.TheVariants as pairs
 use Rattle.subproblems.specs.Subproblem2.{crossed}
-use Rattle.subproblems.proofs.sp2.crossed.Statement.{statement}
-use Rattle.subproblems.proofs.sp2.crossed.Tie as tie
+use Rattle.subproblems.proofs.sp2.crossed.Goals as goal
 
 doubled : (s : SolutionSet2) {t : SolutionSet2} → 0 < size s → t ≡ duplicated s → size t ≡ 2
 doubled Zero h e = absurd (omega arith)
@@ -27,15 +26,11 @@ met : (theta1 theta2 : SolutionSet2) {s1 s2 : SolutionSet2} {t1 t2 : Pair}
 unfolding crossed
 met theta1 theta2 e1 e2 e3 e4 = cc
 
-expect-two-requires : tie.Need-expect-two-requires
-expect-two-requires c κs = search doubled
+pub expect_two-t1-requires : goal.expect_two-t1-requires
+expect_two-t1-requires c = search doubled
 
-expect-two-requires-2 : tie.Need-expect-two-requires-2
-expect-two-requires-2 c κs = search doubled
+pub expect_two-t2-requires : goal.expect_two-t2-requires
+expect_two-t2-requires c = search doubled
 
-returns : tie.Need-returns
+pub returns : goal.returns
 returns c = search met
-
-pub crossed-spec : {M : Type 1} → statement M
-crossed-spec =
-    tie.close (tie.spec (λ _ _. tt) expect-two-requires (λ _ _. tt) expect-two-requires-2 returns)

@@ -8,8 +8,7 @@ use Rattle.float.specs.Root.{sqrt}
 use Rattle.linear.specs.Vector.{dot, norm, norm_squared}
 use Rattle.linear.specs.declared.vector.Vector3.{Vector3}
 use Rattle.subproblems.specs.Subproblem1.{subproblem1_is_ls}
-use Rattle.subproblems.proofs.sp1.subproblem1_is_ls.Statement.{statement}
-use Rattle.subproblems.proofs.sp1.subproblem1_is_ls.Tie as tie
+use Rattle.subproblems.proofs.sp1.subproblem1_is_ls.Goals as goal
 
 module _ (p1 p2 k : Vector3) (tolerance : Float) {n1 n2 : Float} {t : Bool}
     (e-n1 : n1 ≡ norm_squared p1)
@@ -29,13 +28,8 @@ module _ (p1 p2 k : Vector3) (tolerance : Float) {n1 n2 : Float} {t : Bool}
     unfolding subproblem1_is_ls norm
     along-k h e-d1 e-d2 e-d = cc
 
-returns : tie.Need-returns
-returns c = search by-norm
+pub returns-then-norms_differ : goal.returns-then-norms_differ
+returns-then-norms_differ c = search by-norm
 
-returns-2 : tie.Need-returns-2
-returns-2 c = search along-k
-
-pub subproblem1-is-ls-spec : {M : Type 1} → statement M
-subproblem1-is-ls-spec =
-    tie.close
-    (tie.spec (λ _ _. tt) (λ _ _. tt) (λ _ _. tt) returns (λ _ _. tt) (λ _ _. tt) (λ _ _. tt) returns-2)
+pub returns : goal.returns
+returns c = search along-k

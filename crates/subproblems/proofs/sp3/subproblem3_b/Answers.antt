@@ -6,8 +6,7 @@ use Rattle.linear.specs.Vector.{norm_squared, ◌-ᵛ◌}
 use Rattle.linear.specs.Matrix.{Matrix, apply, outer}
 use Rattle.linear.specs.declared.vector.Vector3.{Vector3}
 use Rattle.subproblems.specs.Subproblem3.{subproblem3_b}
-use Rattle.subproblems.proofs.sp3.subproblem3_b.Statement.{statement}
-use Rattle.subproblems.proofs.sp3.subproblem3_b.Tie as tie
+use Rattle.subproblems.proofs.sp3.subproblem3_b.Goals as goal
 
 met : (p1 p2 k kxp : Vector3) (d : Float) {kk : Matrix} {kkp q : Vector3} {n-q n-k : Float}
     → kk ≡ outer k k
@@ -19,9 +18,5 @@ met : (p1 p2 k kxp : Vector3) (d : Float) {kk : Matrix} {kkp q : Vector3} {n-q n
 unfolding subproblem3_b
 met p1 p2 k kxp d e1 e2 e3 e4 e5 = cc
 
-returns : tie.Need-returns
+pub returns : goal.returns
 returns c = search met
-
-pub subproblem3-b-spec : {M : Type 1} → statement M
-subproblem3-b-spec =
-    tie.close (tie.spec (λ _ _. tt) (λ _ _. tt) (λ _ _. tt) (λ _ _. tt) (λ _ _. tt) returns)

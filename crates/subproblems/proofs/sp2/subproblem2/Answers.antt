@@ -16,8 +16,7 @@ use Rattle.subproblems.specs.Subproblem2.{norm_tolerance, paired, subproblem2}
 use Rattle.subproblems.specs.Subproblem4.{either_side, subproblem4}
 use Rattle.subproblems.specs.declared.Solved2.{Solved2}
 use Rattle.subproblems.specs.declared.SolvedPairs2.{SolvedPairs2}
-use Rattle.subproblems.proofs.sp2.subproblem2.Statement.{statement}
-use Rattle.subproblems.proofs.sp2.subproblem2.Tie as tie
+use Rattle.subproblems.proofs.sp2.subproblem2.Goals as goal
 
 -- whichever arm subproblem4 takes
 arms : (t : Bool) (x0 x1 xi perp0 perp1 x : Float) {r : Solved2}
@@ -52,25 +51,8 @@ met : (p1 p2 k1 k2 : Vector3) {n1 n2 d1 d2 n : Float} {u1 u2 : Vector3} {t1 t2 :
 unfolding subproblem2 normalize
 met p1 p2 k1 k2 e1 e2 e3 e4 e5 e6 e7 e8 e9 e10 e11 = cc
 
-paired-requires : tie.Need-paired-requires
-paired-requires c κs = (search some, search some)
+pub paired-requires : goal.paired-requires
+paired-requires c = (search some, search some)
 
-returns : tie.Need-returns
+pub returns : goal.returns
 returns c = search met
-
-pub subproblem2-spec : {M : Type 1} → statement M
-subproblem2-spec =
-    tie.close
-    (tie.spec
-    (λ _ _. tt)
-    (λ _ _. tt)
-    (λ _ _. tt)
-    (λ _ _. tt)
-    (λ _ _. tt)
-    (λ _ _. tt)
-    (λ _ _. tt)
-    (λ _ _. tt)
-    (λ _ _. tt)
-    paired-requires
-    (λ _ _. tt)
-    returns)

@@ -9,8 +9,7 @@ use Rattle.solutionset.specs.declared.SolutionSet2.{SolutionSet2}
 use Rattle.solutionset.specs.declared.pairs.PairSet2.{PairSet2}
 use Rattle.solutionset.specs.declared.pairs.PairSet2.TheVariants.{One}
 use Rattle.subproblems.specs.Subproblem2.{crossed, paired}
-use Rattle.subproblems.proofs.sp2.paired.Statement.{statement}
-use Rattle.subproblems.proofs.sp2.paired.Tie as tie
+use Rattle.subproblems.proofs.sp2.paired.Goals as goal
 
 module _ (theta1 theta2 : SolutionSet2) {n1 : ℕ} (e-n1 : n1 ≡ size theta1) where
   first : {r : PairSet2} → 1 < n1 → r ≡ crossed theta1 theta2 → r ≡ paired theta1 theta2
@@ -31,25 +30,11 @@ module _ (theta1 theta2 : SolutionSet2) {n1 : ℕ} (e-n1 : n1 ≡ size theta1) w
   unfolding paired
   neither g e-n2 h e-a e-b = let s = le-ltb _ _ g in let t = le-ltb _ _ h in cc
 
-returns : tie.Need-returns
-returns c = search first
+pub returns-then-size-gt1 : goal.returns-then-size-gt1
+returns-then-size-gt1 c = search first
 
-returns-2 : tie.Need-returns-2
-returns-2 c = search second
+pub returns-then-size-gt1-2 : goal.returns-then-size-gt1-2
+returns-then-size-gt1-2 c = search second
 
-returns-3 : tie.Need-returns-3
-returns-3 c = search neither
-
-pub paired-spec : {M : Type 1} → statement M
-paired-spec =
-    tie.close
-    (tie.spec
-    (λ _ _. tt)
-    (λ c κs. search rules)
-    returns
-    (λ _ _. tt)
-    (λ c κs. search rules)
-    returns-2
-    (λ c κs. search rules)
-    (λ c κs. search rules)
-    returns-3)
+pub returns : goal.returns
+returns c = search neither

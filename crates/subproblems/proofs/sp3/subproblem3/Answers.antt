@@ -14,8 +14,7 @@ use Rattle.subproblems.specs.Subproblem3.{subproblem3_b, subproblem3}
 use Rattle.subproblems.specs.Subproblem4.{either_side}
 use Rattle.subproblems.specs.declared.Columns.{Columns}
 use Rattle.subproblems.specs.declared.Solved2.{Solved2}
-use Rattle.subproblems.proofs.sp3.subproblem3.Statement.{statement}
-use Rattle.subproblems.proofs.sp3.subproblem3.Tie as tie
+use Rattle.subproblems.proofs.sp3.subproblem3.Goals as goal
 
 module _ (p1 p2 k : Vector3) (d : Float) {a : Columns} {q qb v : Vector3} {a0 a1 b x0 x1 : Float}
     (e-a : a ≡ columns k p1)
@@ -44,28 +43,8 @@ module _ (p1 p2 k : Vector3) (d : Float) {a : Columns} {q qb v : Vector3} {a0 a1
     unfolding subproblem3
     both t e-norm e-xi e-set = cc
 
-returns : tie.Need-returns
-returns c = search only
+pub returns-then-x0-x1 : goal.returns-then-x0-x1
+returns-then-x0-x1 c = search only
 
-returns-2 : tie.Need-returns-2
-returns-2 c = search both
-
-pub subproblem3-spec : {M : Type 1} → statement M
-subproblem3-spec =
-    tie.close
-    (tie.spec
-    (λ _ _. tt)
-    (λ _ _. tt)
-    (λ _ _. tt)
-    (λ _ _. tt)
-    (λ _ _. tt)
-    (λ _ _. tt)
-    (λ _ _. tt)
-    (λ _ _. tt)
-    (λ _ _. tt)
-    (λ _ _. tt)
-    returns
-    (λ _ _. tt)
-    (λ _ _. tt)
-    (λ _ _. tt)
-    returns-2)
+pub returns : goal.returns
+returns c = search both

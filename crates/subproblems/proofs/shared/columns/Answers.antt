@@ -4,8 +4,7 @@ use Rattle.linear.specs.Vector.{cross, negᵛ}
 use Rattle.linear.specs.declared.vector.Vector3.{Vector3}
 use Rattle.subproblems.specs.Columns.{columns}
 use Rattle.subproblems.specs.declared.Columns.{Columns}
-use Rattle.subproblems.proofs.shared.columns.Statement.{statement}
-use Rattle.subproblems.proofs.shared.columns.Tie as tie
+use Rattle.subproblems.proofs.shared.columns.Goals as goal
 
 met : (k p : Vector3) {kxp kkp second : Vector3}
     → kxp ≡ cross k p
@@ -14,8 +13,5 @@ met : (k p : Vector3) {kxp kkp second : Vector3}
     → ◌≡◌ {A = Columns} (record { first = kxp; second = second }) (columns k p)
 met k p e1 e2 e3 = cc
 
-returns : tie.Need-returns
+pub returns : goal.returns
 returns c = search met
-
-pub columns_spec : {M : Type 1} → statement M
-columns_spec = tie.close (tie.spec (λ _ _. tt) (λ _ _. tt) (λ _ _. tt) returns)

@@ -14,8 +14,7 @@ use Rattle.subproblems.specs.Subproblem4.{either_side, subproblem4}
 use Rattle.subproblems.specs.declared.Columns.{Columns}
 use Rattle.subproblems.specs.declared.Solved2.{Solved2}
 use Rattle.subproblems.proofs.Commute.{dot_comm}
-use Rattle.subproblems.proofs.sp4.subproblem4.Statement.{statement}
-use Rattle.subproblems.proofs.sp4.subproblem4.Tie as tie
+use Rattle.subproblems.proofs.sp4.subproblem4.Goals as goal
 
 module _ (h p k : Vector3) (d : Float) {a : Columns} {a0 a1 l : Float}
     (e-a : a ≡ columns k p)
@@ -46,22 +45,8 @@ module _ (h p k : Vector3) (d : Float) {a : Columns} {a0 a1 l : Float}
         let c1 = dot_comm h a.second in
         cc
 
-returns : tie.Need-returns
-returns c = search two
+pub returns-then-norm_a_2-b : goal.returns-then-norm_a_2-b
+returns-then-norm_a_2-b c = search two
 
-returns-2 : tie.Need-returns-2
-returns-2 c = search one
-
-pub subproblem4-spec : {M : Type 1} → statement M
-subproblem4-spec =
-    tie.close
-    (tie.spec
-    (λ _ _. tt)
-    (λ _ _. tt)
-    (λ _ _. tt)
-    (λ _ _. tt)
-    (λ _ _. tt)
-    (λ _ _. tt)
-    (λ _ _. tt)
-    returns
-    returns-2)
+pub returns-else-norm_a_2-b : goal.returns-else-norm_a_2-b
+returns-else-norm_a_2-b c = search one

@@ -7,8 +7,7 @@ use Rattle.linear.specs.declared.vector.Vector3.{Vector3}
 use Rattle.subproblems.specs.Columns.{columns}
 use Rattle.subproblems.specs.Subproblem1.{subproblem1_theta}
 use Rattle.subproblems.specs.declared.Columns.{Columns}
-use Rattle.subproblems.proofs.sp1.subproblem1_theta.Statement.{statement}
-use Rattle.subproblems.proofs.sp1.subproblem1_theta.Tie as tie
+use Rattle.subproblems.proofs.sp1.subproblem1_theta.Goals as goal
 
 met : (p1 p2 k : Vector3) {a : Columns} {x0 x1 r : Float}
     → a ≡ columns k p1
@@ -19,8 +18,5 @@ met : (p1 p2 k : Vector3) {a : Columns} {x0 x1 r : Float}
 unfolding subproblem1_theta
 met p1 p2 k e1 e2 e3 e4 = cc
 
-returns : tie.Need-returns
+pub returns : goal.returns
 returns c = search met
-
-pub subproblem1-theta-spec : {M : Type 1} → statement M
-subproblem1-theta-spec = tie.close (tie.spec (λ _ _. tt) (λ _ _. tt) (λ _ _. tt) (λ _ _. tt) returns)
