@@ -4,15 +4,11 @@ use lib.Ieee.{Float}
 use Rattle.linear.specs.Matrix.{Matrix, rot_unit, rot}
 use Rattle.linear.specs.Vector.{normalize}
 use Rattle.linear.specs.declared.vector.Vector3.{Vector3}
-use Rattle.families_shared.proofs.ahead.Statement.{statement}
-use Rattle.families_shared.proofs.ahead.Tie as tie
+use Rattle.families_shared.proofs.ahead.Goals as goal
 
 met : (h u : Vector3) (q : Float) {r : Matrix} → u ≡ normalize h → r ≡ rot_unit u q → r ≡ rot h q
 unfolding rot
 met h u q e e' = cc
 
-returns : tie.Need-returns
+pub returns : goal.returns
 returns c = search met
-
-pub ahead-spec : {M : Type 1} → statement M
-ahead-spec = tie.close (tie.spec (λ _ _. tt) returns)
