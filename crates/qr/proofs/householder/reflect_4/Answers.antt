@@ -7,8 +7,7 @@ use Rattle.qr.specs.Qr.{entries, dot}
 use Rattle.qr.specs.Port.{reflect_4}
 use Rattle.qr.specs.declared.Vector4.{Vector4}
 use Rattle.qr.specs.declared.householder.Reflection4.{Reflection4}
-use Rattle.qr.proofs.householder.reflect_4.Statement.{statement}
-use Rattle.qr.proofs.householder.reflect_4.Tie as tie
+use Rattle.qr.proofs.householder.reflect_4.Goals as goal
 
 module _ (m : Reflection4) (w : Vector4) where
   skipped : m.skip ≡ true → w ≡ reflect_4 m w
@@ -23,11 +22,8 @@ module _ (m : Reflection4) (w : Vector4) where
   unfolding reflect_4
   moved e g = rw (e, g)
 
-returns : tie.Need-returns
-returns c = search skipped
+pub returns-then-m : goal.returns-then-m
+returns-then-m c = search skipped
 
-returns-2 : tie.Need-returns-2
-returns-2 c = search moved
-
-pub reflect-4-spec : {M : Type 1} → statement M
-reflect-4-spec = tie.close (tie.spec returns (λ _ _. tt) returns-2)
+pub returns : goal.returns
+returns c = search moved

@@ -7,8 +7,7 @@ use Rattle.qr.specs.declared.Vector4.{Vector4}
 use Rattle.qr.specs.declared.householder.Reflection4.{Reflection4}
 use Rattle.qr.specs.declared.householder.Reflection3.{Reflection3}
 use Rattle.qr.specs.declared.householder.Columns4.{Columns4}
-use Rattle.qr.proofs.householder.columns.Statement.{statement}
-use Rattle.qr.proofs.householder.columns.Tie as tie
+use Rattle.qr.proofs.householder.columns.Goals as goal
 
 met : (m : Reflection4) (n : Reflection3) {a b c d q0 q1 q2 q3 : Vector4}
     → a ≡ both m n (one ∷ nought ∷ nought ∷ nought ∷ [])
@@ -23,8 +22,5 @@ met : (m : Reflection4) (n : Reflection3) {a b c d q0 q1 q2 q3 : Vector4}
 unfolding columns
 met m n h1 h2 h3 h4 h5 h6 h7 h8 = rw (h5, h6, h7, h8, h1, h2, h3, h4)
 
-returns : tie.Need-returns
+pub returns : goal.returns
 returns c = search met
-
-pub columns_spec : {M : Type 1} → statement M
-columns_spec = tie.close (tie.spec (λ _ _. tt) (λ _ _. tt) (λ _ _. tt) (λ _ _. tt) (λ _ _. tt) (λ _ _. tt) (λ _ _. tt) (λ _ _. tt) returns)

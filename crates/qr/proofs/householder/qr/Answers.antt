@@ -9,8 +9,7 @@ use Rattle.qr.specs.declared.householder.Reflection4.{Reflection4}
 use Rattle.qr.specs.declared.householder.Reflection3.{Reflection3}
 use Rattle.qr.specs.declared.householder.Columns4.{Columns4}
 use Rattle.qr.proofs.Steps.{steps}
-use Rattle.qr.proofs.householder.qr.Statement.{statement}
-use Rattle.qr.proofs.householder.qr.Tie as tie
+use Rattle.qr.proofs.householder.qr.Goals as goal
 
 met : (a0 a1 : Vector4) {m : Reflection4} {n : Reflection3} {r0 r1 s1 : Vector4} {part : Vector3} {q : Columns4} {r : QrFactors}
     → m ≡ reflection_4 a0
@@ -24,8 +23,5 @@ met : (a0 a1 : Vector4) {m : Reflection4} {n : Reflection3} {r0 r1 s1 : Vector4}
     → r ≡ qr a0 a1
 met a0 a1 e1 e2 e3 e4 e5 e6 e7 e8 = cc (steps a0 a1)
 
-returns : tie.Need-returns
+pub returns : goal.returns
 returns c = search met
-
-pub qr-spec : {M : Type 1} → statement M
-qr-spec = tie.close (tie.spec (λ _ _. tt) (λ _ _. tt) (λ _ _. tt) (λ _ _. tt) (λ _ _. tt) (λ _ _. tt) (λ _ _. tt) (λ _ _. tt) returns)

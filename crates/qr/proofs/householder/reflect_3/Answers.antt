@@ -8,8 +8,7 @@ use Rattle.linear.specs.declared.vector.Vector3.{Vector3}
 use Rattle.qr.specs.Port.{lower, reflect_3}
 use Rattle.qr.specs.declared.Vector4.{Vector4}
 use Rattle.qr.specs.declared.householder.Reflection3.{Reflection3}
-use Rattle.qr.proofs.householder.reflect_3.Statement.{statement}
-use Rattle.qr.proofs.householder.reflect_3.Tie as tie
+use Rattle.qr.proofs.householder.reflect_3.Goals as goal
 
 module _ (m : Reflection3) (w : Vector4) where
   skipped : m.skip ≡ true → w ≡ reflect_3 m w
@@ -25,11 +24,8 @@ module _ (m : Reflection3) (w : Vector4) where
   unfolding reflect_3
   moved e g h = rw (e, h, g)
 
-returns : tie.Need-returns
-returns c = search skipped
+pub returns-then-m : goal.returns-then-m
+returns-then-m c = search skipped
 
-returns-2 : tie.Need-returns-2
-returns-2 c = search moved
-
-pub reflect-3-spec : {M : Type 1} → statement M
-reflect-3-spec = tie.close (tie.spec returns (λ _ _. tt) (λ _ _. tt) returns-2)
+pub returns : goal.returns
+returns c = search moved

@@ -4,8 +4,7 @@ use mathlib.Core.Bool.{true, false}
 use lib.Ieee.{Float, neg, lt}
 use Rattle.float.specs.Num.{◌⊕◌, nought}
 use Rattle.qr.specs.Qr.{turned}
-use Rattle.qr.proofs.householder.lead.Statement.{statement}
-use Rattle.qr.proofs.householder.lead.Tie as tie
+use Rattle.qr.proofs.householder.lead.Goals as goal
 
 module _ (x n : Float) where
   below : lt x nought ≡ true → x ⊕ neg n ≡ x ⊕ turned (lt x nought) n
@@ -14,11 +13,8 @@ module _ (x n : Float) where
   above : lt x nought ≡ false → x ⊕ n ≡ x ⊕ turned (lt x nought) n
   above e = rw e
 
-returns : tie.Need-returns
-returns c = search below
+pub returns-then-x : goal.returns-then-x
+returns-then-x c = search below
 
-returns-2 : tie.Need-returns-2
-returns-2 c = search above
-
-pub lead-spec : {M : Type 1} → statement M
-lead-spec = tie.close (tie.spec returns returns-2)
+pub returns-else-x : goal.returns-else-x
+returns-else-x c = search above
