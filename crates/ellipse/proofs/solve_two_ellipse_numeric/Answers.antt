@@ -21,8 +21,7 @@ use Rattle.polynomial.specs.declared.Roots.{Roots}
 use Rattle.polynomial.specs.declared.Vector2.{Vector2}
 use Rattle.polynomial.specs.declared.Vector5.{Vector5}
 use Rattle.ellipse.proofs.PointSlots.{of_used}
-use Rattle.ellipse.proofs.solve_two_ellipse_numeric.Statement.{statement}
-use Rattle.ellipse.proofs.solve_two_ellipse_numeric.Tie as tie
+use Rattle.ellipse.proofs.solve_two_ellipse_numeric.Goals as goal
 
 fits : (tolerance : Float) (q : Quartic) {found : Roots} {reals : Slots4}
     → found ≡ solve_quartic_roots q
@@ -46,11 +45,8 @@ module _ (xm1 : Vector2) (xn1 : Matrix2) (xm2 : Vector2) (xn2 : Matrix2) where
       let used = ap from_vec (of_used (point g h) nought 4 kept) in
       e7 ∙ rw e6 (used ∙ rw (e5, e4, e3, e1, e2))
 
-points-requires : tie.Need-points-requires
-points-requires c κs = search fits
+pub points-requires : goal.points-requires
+points-requires c = search fits
 
-returns : tie.Need-returns
+pub returns : goal.returns
 returns c = search met
-
-pub solve-two-ellipse-numeric-spec : {M : Type 1} → statement M
-solve-two-ellipse-numeric-spec = tie.close (tie.spec (λ _ _. tt) (λ _ _. tt) (λ _ _. tt) (λ _ _. tt) (λ _ _. tt) (λ _ _. tt) points-requires returns)

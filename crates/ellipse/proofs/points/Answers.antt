@@ -11,8 +11,7 @@ use Rattle.solutionset.specs.declared.pairs.PairSet4.{PairSet4}
 use Rattle.ellipse.specs.Ellipse.{point}
 use Rattle.ellipse.specs.declared.Conic.{Conic}
 use Rattle.ellipse.proofs.PointSlots.{of_slots}
-use Rattle.ellipse.proofs.points.Statement.{statement}
-use Rattle.ellipse.proofs.points.Tie as tie
+use Rattle.ellipse.proofs.points.Goals as goal
 
 met : (g h : Conic) (y : List Float) (count : ℕ) {s1 s2 s3 s4 : Pair} {r : PairSet4}
     → length y ≡ 4
@@ -26,20 +25,5 @@ met g h y count l e1 e2 e3 e4 e =
     let each = of_slots (point g h) nan y l in
     e ∙ rw (e1, e2, e3, e4) (ap (λ (p : List Pair). from_vec (take count p)) each)
 
-returns : tie.Need-returns
+pub returns : goal.returns
 returns c = search met
-
-pub points-spec : {M : Type 1} → statement M
-points-spec =
-    tie.close
-    (tie.spec
-    (λ c. search rules)
-    (λ _ _. tt)
-    (λ c. search rules)
-    (λ _ _. tt)
-    (λ c. search rules)
-    (λ _ _. tt)
-    (λ c. search rules)
-    (λ _ _. tt)
-    (λ c κs. search rules)
-    returns)

@@ -4,8 +4,7 @@ use lib.Ieee.{Float}
 use Rattle.ellipse.specs.Ellipse.{z0, z1, z2, z3, z4, quartic_in_y}
 use Rattle.ellipse.specs.declared.Conic.{Conic}
 use Rattle.polynomial.specs.declared.Vector5.{Vector5}
-use Rattle.ellipse.proofs.quartic_in_y.Statement.{statement}
-use Rattle.ellipse.proofs.quartic_in_y.Tie as tie
+use Rattle.ellipse.proofs.quartic_in_y.Goals as goal
 
 met : (g h : Conic) {a b c d e : Float}
     → a ≡ z4 g h
@@ -17,8 +16,5 @@ met : (g h : Conic) {a b c d e : Float}
 unfolding quartic_in_y
 met g h e1 e2 e3 e4 e5 = cc
 
-returns : tie.Need-returns
+pub returns : goal.returns
 returns c = search met
-
-pub quartic-in-y-spec : {M : Type 1} → statement M
-quartic-in-y-spec = tie.close (tie.spec (λ _ _. tt) (λ _ _. tt) (λ _ _. tt) (λ _ _. tt) (λ _ _. tt) returns)
