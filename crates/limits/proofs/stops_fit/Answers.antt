@@ -5,15 +5,11 @@ use borrow.Author.Rules.{rules}
 use lib.Ieee.{Float, lt}
 use Rattle.float.specs.Number.{is_finite}
 use Rattle.limits.specs.Limits.{stops_fit}
-use Rattle.limits.proofs.stops_fit.Statement.{statement}
-use Rattle.limits.proofs.stops_fit.Tie as tie
+use Rattle.limits.proofs.stops_fit.Goals as goal
 
 met : (low high : Float) {a b c : Bool} → a ≡ is_finite low → b ≡ is_finite high → c ≡ not (lt high low) → a && b && c ≡ stops_fit low high
 unfolding stops_fit
 met low high ea eb ec = rw (ea, eb, ec)
 
-returns : tie.Need-returns
+pub returns : goal.returns
 returns c = search met
-
-pub stops-fit-spec : {M : Type 1} → statement M
-stops-fit-spec = tie.close (tie.spec (λ c κs. search rules) (λ c κs. search rules) (λ c κs. search rules) returns)

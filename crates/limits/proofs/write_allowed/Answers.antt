@@ -13,14 +13,7 @@ use Rattle.answers.specs.declared.Answer.{Answer}
 use Rattle.answers.proofs.Held.{held_at, held_long}
 use Rattle.answers.proofs.Steps.{angles_kept, flags_kept}
 use Rattle.limits.proofs.Each.{one, Written, begun, step, all_written, small}
-use Rattle.limits.proofs.write_allowed.Statement.{statement}
-use Rattle.limits.proofs.write_allowed.Tie as tie
-
-abbrev invariant-loop : tie.invariant-loop
-invariant-loop n numbers bytes limits angles₀ flags₀ count₀ k₀ angles flags count k = Written limits (held n numbers bytes) n angles₀ flags₀ angles flags count k
-
-abbrev decreases-loop : tie.decreases-loop
-decreases-loop n numbers bytes limits angles₀ flags₀ count₀ k₀ angles flags count k = n - k
+use Rattle.limits.proofs.write_allowed.Goals as goal
 
 module _ (n : ℕ) (numbers : List Float) (bytes : List ℕ) (limits : List Float) where
   start : (a : List Float) (f : List ℕ) → n ≤ 17600 → Written limits (held n numbers bytes) n a f a f 0 0
@@ -36,50 +29,28 @@ module _ (n : ℕ) (numbers : List Float) (bytes : List ℕ) (limits : List Floa
       → Written limits (held n numbers bytes) n a₀ f₀ (put_mid at (length a - at) a a') (put_mid on (length f - on) f f') (count + r) (k + 1)
   next {k = k} {q = q} t h e e1 e2 w = step limits (held n numbers bytes) n q t h (e ∙ sym (held_at n numbers bytes k q h)) e1 e2 w
 
-loop-holds : tie.Need-loop-init invariant-loop decreases-loop
-loop-holds c = search start
+pub loop-k-init : goal.loop-k-init
+loop-k-init c = search start
 
-read-requires : tie.Need-read-requires invariant-loop decreases-loop
-read-requires c κs = (omega arith, omega arith)
+pub read-q-requires : goal.read-q-requires
+read-q-requires c = (omega arith, omega arith)
 
-mul-rest : tie.Need-overflow-mul-rest invariant-loop decreases-loop
-mul-rest c = omega arith
-
-add-count : tie.Need-overflow-add-count invariant-loop decreases-loop
-add-count c =
+pub overflow_add-count : goal.overflow_add-count
+overflow_add-count c =
     let called = c.before.before.before.before in
     let tested = called.before.before.before.before.before.before in
-    omega (arith, small _ _ _ _ tested.before.loop.invariant called.put-allowed.ensures)
+    omega (arith, small _ _ _ _ tested.before.loop-k.invariant called.put_allowed-count.ensures)
 
-loop-again : tie.Need-loop-preserved invariant-loop decreases-loop
-loop-again c = search next
+pub loop-k-preserved : goal.loop-k-preserved
+loop-k-preserved c = search next
 
-returns : tie.Need-returns invariant-loop decreases-loop
+pub returns : goal.returns
 returns c = search all_written
 
-pub write-allowed-spec : {M : Type 1} → statement M
-write-allowed-spec =
-    tie.close
-    (tie.spec
-    invariant-loop
-    decreases-loop
-    loop-holds
-    read-requires
-    mul-rest
-    (λ _ _. tt)
-    (λ _ _. tt)
-    (λ c. search rules)
-    (λ c. search rules)
-    (λ c. search rules)
-    (λ c. search rules)
-    (λ c. search rules)
-    (λ c. search rules)
-    (λ c. search rules)
-    (λ c κs. search rules)
-    add-count
-    (λ c. search rules)
-    (λ c. search rules)
-    loop-again
-    (λ c. search angles_kept)
-    (λ c. search flags_kept)
-    returns)
+pub shape_of-angles : goal.shape_of-angles
+shape_of-angles c =
+    search angles_kept
+
+pub shape_of-flags : goal.shape_of-flags
+shape_of-flags c =
+    search flags_kept

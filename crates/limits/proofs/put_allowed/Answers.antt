@@ -10,8 +10,7 @@ use Rattle.answers.specs.declared.Answer.{Answer}
 use Rattle.answers.proofs.Laws.{by_name, nothing}
 use Rattle.limits.specs.Limits.{inside, allowed}
 use Rattle.limits.proofs.Filter.{one_stays, one_leaves}
-use Rattle.limits.proofs.put_allowed.Statement.{statement}
-use Rattle.limits.proofs.put_allowed.Tie as tie
+use Rattle.limits.proofs.put_allowed.Goals as goal
 
 module _ (limits : List Float) (q : Answer) (a : List Float) (f : List ℕ) {t : Bool} (e : t ≡ inside limits q) where
   stays : {a' : List Float} {f' : List ℕ} {r : ℕ} → t ≡ true → Wrote (q ∷ []) a f a' f' r → Wrote (allowed limits (q ∷ [])) a f a' f' r
@@ -20,11 +19,8 @@ module _ (limits : List Float) (q : Answer) (a : List Float) (f : List ℕ) {t :
   leaves : t ≡ false → Wrote (allowed limits (q ∷ [])) a f a f 0
   leaves n = by_name (one_leaves limits q (cc)) (nothing a f)
 
-returns : tie.Need-returns
-returns c = search stays
+pub returns-then-inside : goal.returns-then-inside
+returns-then-inside c = search stays
 
-returns-2 : tie.Need-returns-2
-returns-2 c = search leaves
-
-pub put-allowed-spec : {M : Type 1} → statement M
-put-allowed-spec = tie.close (tie.spec (λ c κs. search rules) (λ c κs. search rules) (λ c. search rules) (λ c. search rules) returns returns-2)
+pub returns-else-inside : goal.returns-else-inside
+returns-else-inside c = search leaves

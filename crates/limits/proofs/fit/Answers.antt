@@ -1,0 +1,8 @@
+-- Each joint's two.
+use native.Mathlib.Omega.{arith}
+use borrow.Author.Rules.{rules}
+use Rattle.limits.proofs.Laws.{each_pair}
+use Rattle.limits.proofs.fit.Goals as goal
+
+pub returns : goal.returns
+returns c = search each_pair
