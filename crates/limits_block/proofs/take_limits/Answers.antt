@@ -9,8 +9,7 @@ use lib.Ieee.{Float}
 use Rattle.limits_block.specs.LimitsBlock.{is_limits, limits_refusal, accepted, in_force}
 use Rattle.limits_block.proofs.Accepted.{another_block}
 use Rattle.limits_block.proofs.InForce.{kept}
-use Rattle.limits_block.proofs.take_limits.Statement.{statement}
-use Rattle.limits_block.proofs.take_limits.Tie as tie
+use Rattle.limits_block.proofs.take_limits.Goals as goal
 
 module _ (bytes : List ℕ) where
   judged-so : {r : ℕ} → r ≡ limits_refusal bytes → eqb r 0 ≡ accepted bytes
@@ -23,11 +22,8 @@ module _ (bytes : List ℕ) where
     as_before : (before : List Float) → before ≡ in_force bytes before
     as_before before = sym (kept bytes before (another_block bytes (sym e ∙ h)))
 
-returns : tie.Need-returns
-returns c = (search judged-so, search rules)
+pub returns-then-is_limits : goal.returns-then-is_limits
+returns-then-is_limits c = record { result = search judged-so; limits = search rules }
 
-returns-2 : tie.Need-returns-2
-returns-2 c = (search not-one, search as_before)
-
-pub take-limits-spec : {M : Type 1} → statement M
-take-limits-spec = tie.close (tie.spec (λ c κs. search rules) (λ c κs. search rules) returns returns-2)
+pub returns : goal.returns
+returns c = record { result = search not-one; limits = search as_before }

@@ -7,8 +7,7 @@ use borrow.Author.Rules.{rules}
 use lib.ListN.{take, drop}
 use Rattle.words.specs.Words.{zeros}
 use Rattle.limits_block.specs.LimitsBlock.{is_limits, limits_reserved}
-use Rattle.limits_block.proofs.reserved.Statement.{statement}
-use Rattle.limits_block.proofs.reserved.Tie as tie
+use Rattle.limits_block.proofs.reserved.Goals as goal
 
 all-four : (bytes : List ℕ) {a b c d : Bool} → a ≡ zeros (take 3 bytes) → b ≡ zeros (take 4 (drop 4 bytes)) → c ≡ zeros (take 400 (drop 104 bytes))
     → d ≡ is_limits bytes
@@ -16,8 +15,5 @@ all-four : (bytes : List ℕ) {a b c d : Bool} → a ≡ zeros (take 3 bytes) �
 unfolding limits_reserved
 all-four bytes e-a e-b e-c e-d = rw (e-a, e-b, e-c, e-d)
 
-returns : tie.Need-returns
+pub returns : goal.returns
 returns c = search all-four
-
-pub reserved-spec : {M : Type 1} → statement M
-reserved-spec = tie.close (tie.spec (λ c. search rules) (λ c. search rules) (λ c. search rules) (λ c κs. search rules) (λ c. search rules) (λ c. search rules) (λ c. search rules) (λ c κs. search rules) (λ c. search rules) (λ c. search rules) (λ c. search rules) (λ c κs. search rules) (λ c κs. search rules) returns)

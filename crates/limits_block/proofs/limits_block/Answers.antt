@@ -10,8 +10,7 @@ use lib.ListN.{length}
 use Rattle.limits_block.specs.LimitsBlock.{limits, limits_refusal, accepted, in_force}
 use Rattle.limits_block.proofs.Accepted.{accepted_whole}
 use Rattle.limits_block.proofs.InForce.{taken, kept}
-use Rattle.limits_block.proofs.limits_block.Statement.{statement}
-use Rattle.limits_block.proofs.limits_block.Tie as tie
+use Rattle.limits_block.proofs.limits_block.Goals as goal
 
 module _ (bytes : List ℕ) {refused : ℕ} (e : refused ≡ limits_refusal bytes) where
   yes : refused ≡ 0 → accepted bytes ≡ true
@@ -30,14 +29,11 @@ module _ (bytes : List ℕ) {refused : ℕ} (e : refused ≡ limits_refusal byte
     old-ones : (refused ≡ 0 → ⊥) → before ≡ in_force bytes before
     old-ones h = sym (kept bytes before (no h))
 
-limits-requires : tie.Need-limits-requires
-limits-requires c κs = search whole_block
+pub limits-requires : goal.limits-requires
+limits-requires c = search whole_block
 
-returns : tie.Need-returns
-returns c = (search rules, search new-ones)
+pub returns-then-refused-eq0 : goal.returns-then-refused-eq0
+returns-then-refused-eq0 c = record { result = search rules; limits = search new-ones }
 
-returns-2 : tie.Need-returns-2
-returns-2 c = (search rules, search old-ones)
-
-pub limits-block-spec : {M : Type 1} → statement M
-limits-block-spec = tie.close (tie.spec (λ c κs. search rules) limits-requires returns returns-2)
+pub returns-else-refused-eq0 : goal.returns-else-refused-eq0
+returns-else-refused-eq0 c = record { result = search rules; limits = search old-ones }

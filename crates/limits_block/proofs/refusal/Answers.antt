@@ -11,8 +11,7 @@ use Rattle.block.specs.Block.{judged}
 use Rattle.block.proofs.Judged.{undamaged, goes_on, stops}
 use Rattle.limits.specs.Limits.{refusal_10}
 use Rattle.limits_block.specs.LimitsBlock.{limits, limits_reserved, limits_refusal}
-use Rattle.limits_block.proofs.refusal.Statement.{statement}
-use Rattle.limits_block.proofs.refusal.Tie as tie
+use Rattle.limits_block.proofs.refusal.Goals as goal
 
 module _ (bytes : List ℕ) {damaged : ℕ} (e : damaged ≡ judged bytes 0) where
   one-or-two : (damaged ≡ 0 → ⊥) → damaged ≡ limits_refusal bytes
@@ -35,20 +34,17 @@ module _ (bytes : List ℕ) {damaged : ℕ} (e : damaged ≡ judged bytes 0) whe
       unfolding limits_refusal
       three t = rw (← e-z, t) (goes_on bytes 3 e h)
 
-returns : tie.Need-returns
-returns c = search one-or-two
+pub returns-then-damaged-ne0 : goal.returns-then-damaged-ne0
+returns-then-damaged-ne0 c = search one-or-two
 
-limits-requires : tie.Need-limits-requires
-limits-requires c κs = search whole_block
+pub limits-list-requires : goal.limits-list-requires
+limits-list-requires c = search whole_block
 
-reserved-requires : tie.Need-reserved-requires
-reserved-requires c κs = search nearly-whole
+pub reserved-requires : goal.reserved-requires
+reserved-requires c = search nearly-whole
 
-returns-2 : tie.Need-returns-2
-returns-2 c = search ten
+pub returns-then-reserved : goal.returns-then-reserved
+returns-then-reserved c = search ten
 
-returns-3 : tie.Need-returns-3
-returns-3 c = search three
-
-pub refusal-spec : {M : Type 1} → statement M
-refusal-spec = tie.close (tie.spec (λ c κs. search rules) returns limits-requires (λ c. search rules) (λ c κs. search rules) reserved-requires returns-2 returns-3)
+pub returns-else-reserved : goal.returns-else-reserved
+returns-else-reserved c = search three

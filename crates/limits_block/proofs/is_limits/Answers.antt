@@ -7,14 +7,10 @@ use native.Mathlib.Omega.{arith}
 use borrow.Author.Rules.{rules}
 use lib.ListN.{length, get_or-eq_default}
 use Rattle.limits_block.specs.LimitsBlock.{is_limits}
-use Rattle.limits_block.proofs.is_limits.Statement.{statement}
-use Rattle.limits_block.proofs.is_limits.Tie as tie
+use Rattle.limits_block.proofs.is_limits.Goals as goal
 
 short : (bytes : List ℕ) → length bytes < 4 → false ≡ is_limits bytes
 short bytes h = rw (get_or-eq_default bytes 0 {n = 3} (omega arith))
 
-returns : tie.Need-returns
-returns c = search short
-
-pub is-limits-spec : {M : Type 1} → statement M
-is-limits-spec = tie.close (tie.spec returns (λ c. search rules) (λ c. search rules))
+pub returns-then-bytes-lt4 : goal.returns-then-bytes-lt4
+returns-then-bytes-lt4 c = search short
