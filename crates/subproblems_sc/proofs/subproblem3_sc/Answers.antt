@@ -11,8 +11,7 @@ use Rattle.subproblems.specs.Columns.{columns}
 use Rattle.subproblems_sc.specs.SinCosForms.{sc, subproblem3_sc}
 use Rattle.subproblems.specs.declared.Columns.{Columns}
 use Rattle.subproblems_sc.specs.declared.SolvedSinCos2.{SolvedSinCos2}
-use Rattle.subproblems_sc.proofs.subproblem3_sc.Statement.{statement}
-use Rattle.subproblems_sc.proofs.subproblem3_sc.Tie as tie
+use Rattle.subproblems_sc.proofs.subproblem3_sc.Goals as goal
 
 module _ (p1 p2 k : Vector3) (d : Float) {a : Columns} {kk q : Vector3} {d0 d1 kp n-q n-k : Float}
     (e-a : a ≡ columns k p1)
@@ -55,26 +54,8 @@ module _ (p1 p2 k : Vector3) (d : Float) {a : Columns} {kk q : Vector3} {d0 d1 k
     unfolding subproblem3_sc
     both t e-xi e-norm = cc
 
-returns : tie.Need-returns
-returns c = search only
+pub returns-then-norm_x_sq : goal.returns-then-norm_x_sq
+returns-then-norm_x_sq c = search only
 
-returns-2 : tie.Need-returns-2
-returns-2 c = search both
-
-pub subproblem3-sc-spec : {M : Type 1} → statement M
-subproblem3-sc-spec =
-    tie.close
-    (tie.spec
-    (λ _ _. tt)
-    (λ _ _. tt)
-    (λ _ _. tt)
-    (λ _ _. tt)
-    (λ _ _. tt)
-    (λ _ _. tt)
-    (λ _ _. tt)
-    (λ _ _. tt)
-    (λ _ _. tt)
-    returns
-    (λ _ _. tt)
-    (λ _ _. tt)
-    returns-2)
+pub returns : goal.returns
+returns c = search both

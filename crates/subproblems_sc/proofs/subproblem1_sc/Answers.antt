@@ -8,8 +8,7 @@ use Rattle.linear.specs.declared.vector.Vector3.{Vector3}
 use Rattle.subproblems_sc.specs.SinCosForms.{unit, subproblem1_sc}
 use Rattle.subproblems.specs.Subproblem1.{subproblem1_is_ls, tolerance}
 use Rattle.subproblems_sc.specs.declared.SolvedSinCos.{SolvedSinCos}
-use Rattle.subproblems_sc.proofs.subproblem1_sc.Statement.{statement}
-use Rattle.subproblems_sc.proofs.subproblem1_sc.Tie as tie
+use Rattle.subproblems_sc.proofs.subproblem1_sc.Goals as goal
 
 met : (p1 p2 k : Vector3) {kxp kkp : Vector3} {x0 x1 : Float} {u : SinCos} {is-ls : Bool}
     → kxp ≡ cross k p1
@@ -22,10 +21,5 @@ met : (p1 p2 k : Vector3) {kxp kkp : Vector3} {x0 x1 : Float} {u : SinCos} {is-l
 unfolding subproblem1_sc
 met p1 p2 k e1 e2 e3 e4 e5 e6 = cc
 
-returns : tie.Need-returns
+pub returns : goal.returns
 returns c = search met
-
-pub subproblem1-sc-spec : {M : Type 1} → statement M
-subproblem1-sc-spec =
-    tie.close
-    (tie.spec (λ _ _. tt) (λ _ _. tt) (λ _ _. tt) (λ _ _. tt) (λ _ _. tt) (λ _ _. tt) returns)

@@ -6,8 +6,7 @@ use Rattle.float.specs.Num.{◌⊕◌, ◌⊗◌, ◌⊘◌, nought, one}
 use Rattle.float.specs.Root.{sqrt}
 use Rattle.float.specs.declared.sine.SinCos.{SinCos}
 use Rattle.subproblems_sc.specs.SinCosForms.{sc, unit}
-use Rattle.subproblems_sc.proofs.unit.Statement.{statement}
-use Rattle.subproblems_sc.proofs.unit.Tie as tie
+use Rattle.subproblems_sc.proofs.unit.Goals as goal
 
 module _ (x0 x1 : Float) {n : Float} (e : n ≡ sqrt (x0 ⊗ x0 ⊕ x1 ⊗ x1)) where
   over : lt nought n ≡ true → sc (x0 ⊘ n) (x1 ⊘ n) ≡ unit x0 x1
@@ -18,11 +17,8 @@ module _ (x0 x1 : Float) {n : Float} (e : n ≡ sqrt (x0 ⊗ x0 ⊕ x1 ⊗ x1)) 
   unfolding unit
   none t = cc
 
-returns : tie.Need-returns
-returns c = search over
+pub returns-then-n : goal.returns-then-n
+returns-then-n c = search over
 
-returns-2 : tie.Need-returns-2
-returns-2 c = search none
-
-pub unit_spec : {M : Type 1} → statement M
-unit_spec = tie.close (tie.spec (λ _ _. tt) returns returns-2)
+pub returns-else-n : goal.returns-else-n
+returns-else-n c = search none

@@ -12,8 +12,7 @@ use Rattle.subproblems.specs.Columns.{columns}
 use Rattle.subproblems_sc.specs.SinCosForms.{sc, unit, subproblem4_sc}
 use Rattle.subproblems.specs.declared.Columns.{Columns}
 use Rattle.subproblems_sc.specs.declared.SolvedSinCos2.{SolvedSinCos2}
-use Rattle.subproblems_sc.proofs.subproblem4_sc.Statement.{statement}
-use Rattle.subproblems_sc.proofs.subproblem4_sc.Tie as tie
+use Rattle.subproblems_sc.proofs.subproblem4_sc.Goals as goal
 
 module _ (h p k : Vector3) (d : Float) {a : Columns} {a0 a1 hk kp : Float}
     (e-a : a ≡ columns k p)
@@ -45,22 +44,8 @@ module _ (h p k : Vector3) (d : Float) {a : Columns} {a0 a1 hk kp : Float}
     unfolding subproblem4_sc
     one t e-u = cc
 
-returns : tie.Need-returns
-returns c = search two
+pub returns-then-norm_a_2-b : goal.returns-then-norm_a_2-b
+returns-then-norm_a_2-b c = search two
 
-returns-2 : tie.Need-returns-2
-returns-2 c = search one
-
-pub subproblem4-sc-spec : {M : Type 1} → statement M
-subproblem4-sc-spec =
-    tie.close
-    (tie.spec
-    (λ _ _. tt)
-    (λ _ _. tt)
-    (λ _ _. tt)
-    (λ _ _. tt)
-    (λ _ _. tt)
-    (λ _ _. tt)
-    (λ _ _. tt)
-    returns
-    returns-2)
+pub returns-else-norm_a_2-b : goal.returns-else-norm_a_2-b
+returns-else-norm_a_2-b c = search one
