@@ -250,7 +250,7 @@ def convert(path, names, crate, fn, known):
         s = steps.get(norm(w))
         return "." + s if s else m[0]
 
-    body = re.sub(r"(?<=[\w)'])\.((?!\d)%s)" % W, field, body)
+    body = renamed_steps(body, names)
     # rename local answers, drop κs, mark pub
     names_map = {k: v for k, v in local.items() if k != v}
 
@@ -404,6 +404,42 @@ def convert(path, names, crate, fn, known):
     return "; ".join(said)
 
 
+def renamed_steps(text, names):
+    """The text with each step of a place by its new name: c.before.if2.true is c.before.if-x.true."""
+    steps, arms = {}, {}
+    of = {p[0]: p for p in names["places"]}
+    for p in reversed(names["places"]):
+        if p[2][0]:
+            steps[norm(p[2][0])] = p[2][1]
+            up = of.get(p[1])
+            if up and up[2][0] == "match" and p[3] is None:
+                arms[norm(p[2][0])] = up[2][1]
+    roots = {"c"} | set(re.findall(r"let (%s) = c(?:\.before)* in" % W, text)) | set(re.findall(r"\((%s) : (?:tie|goal)\." % W, text))
+    while True:
+        more = set(re.findall(r"let (%s) = (?:%s)(?:\.before)* in" % (W, "|".join(map(re.escape, roots))), text)) - roots
+        if not more:
+            break
+        roots |= more
+    chain = re.compile(r"(?<![\w.'-])(%s)((?:\.%s)+)" % ("|".join(map(re.escape, roots)), W))
+
+    def put(m):
+        f = m[2].split(".")[1:]
+        k = 0
+        while k < len(f) and f[k] == "before":
+            k += 1
+        if k < len(f):
+            if f[k] == "well-formed":
+                f[k] = "well_formed"
+            elif f[k] not in ("args", "requires", "ranges", "new") or norm(f[k]) in steps and f[k] != "args":
+                n = norm(f[k])
+                if n in arms and f[k + 1:k + 3] == ["given", "1"]:
+                    return m[1] + "." + ".".join([arms[n], "is"] + f[k + 3:])
+                f[k] = steps.get(n, f[k])
+        return m[1] + "." + ".".join(f)
+
+    return "\n".join(l if l.startswith("use ") else chain.sub(put, l) for l in text.split("\n"))
+
+
 def convert_tie(path, text, names, crate, fn, known):
     """Keeps the Proof.antt, under the new names."""
     at, args = find_spec(text)
@@ -446,7 +482,7 @@ def convert_tie(path, text, names, crate, fn, known):
         return "." + s if s else m[0]
 
     body = re.sub(r"tie\.(%s)" % W, tie, text[:at])
-    body = re.sub(r"(?<=[\w)'])\.((?!\d)%s)" % W, field, body)
+    body = renamed_steps(body, names)
     tail = text[at:]
     old = re.search(r"pub (%s) :" % W, tail)[1]
     tail = re.sub(r"(?<![\w'-])%s(?![\w'-])" % re.escape(old), fn.split(".")[-1] + "_spec", tail)

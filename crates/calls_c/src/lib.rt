@@ -1,5 +1,5 @@
 // The functions by number, over plain numbers: what their test programs call, and under names that
-// begin with bench_ the benchmark (tools/measure/bench_functions.sh). Numbers, arguments and results are
+// begin with bench_ the benchmark, by way of bench_c (tools/measure/bench_functions.sh). Numbers, arguments and results are
 // those of the oracle's test records (`oracle layout`): a vector stands by its parts, a matrix by
 // rows, a complex number as re and im, a set or a list of roots as its count and all its slots. The
 // results go to the first words of `out`. A number that no function has writes nothing.
@@ -16,23 +16,19 @@ ghost use Rattle.calls_c.specs.Numbered.{family_answers};
 pub use family_call::family;
 
 // Of polynomial, qr and ellipse.
-#[unsafe(no_mangle)]
-pub extern "C" fn bench_polynomial(id: u64, args: &[f64; 40], out: &mut [u64; 23]) {
+pub fn bench_polynomial(id: u64, args: &[f64; 40], out: &mut [u64; 23]) {
     polynomials::polynomial(id, args, out);
 }
 
-#[unsafe(no_mangle)]
-pub extern "C" fn bench_subproblem(id: u64, args: &[f64; 40], out: &mut [u64; 23]) {
+pub fn bench_subproblem(id: u64, args: &[f64; 40], out: &mut [u64; 23]) {
     subproblem::subproblem(id, args, out);
 }
 
-#[unsafe(no_mangle)]
-pub extern "C" fn bench_reduced_solutionset(count: u64, args: &[f64; 40], out: &mut [u64; 23]) {
+pub fn bench_reduced_solutionset(count: u64, args: &[f64; 40], out: &mut [u64; 23]) {
     subproblem::reduced_solutionset(count, args, out);
 }
 
-#[unsafe(no_mangle)]
-pub extern "C" fn bench_family(
+pub fn bench_family(
     id: u64,
     arm: &[f64; 39],
     pose: &[f64; 12],
@@ -44,8 +40,7 @@ pub extern "C" fn bench_family(
     family(id, arm, pose, angles, flags)
 }
 
-#[unsafe(no_mangle)]
-pub extern "C" fn bench_forward_kinematics(arm: &[f64; 39], angles: &[f64; 6], pose: &mut [f64; 12])
+pub fn bench_forward_kinematics(arm: &[f64; 39], angles: &[f64; 6], pose: &mut [f64; 12])
     ensures { pose.new ≡ forward_pose arm.now angles.now pose.old }
 {
     forward::forward(arm, angles, pose);
