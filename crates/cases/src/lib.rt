@@ -2,6 +2,8 @@
 // number of 64-bit words in little-endian order: the id of a function, its arguments, and the
 // results that an outside source gives for them. It runs the port on the arguments and counts, for
 // each id, the cases and those whose result is another.
+#![tactic(auto)]
+
 mod results;
 mod tally;
 

@@ -1,8 +1,9 @@
 // The counts: 32 of cases and then 32 of mismatches (specs/Tally.antt).
-ghost use Rattle.std.specs.Prelude.{◌≡◌, ◌<◌, ◌≤◌};
+ghost use Rattle.std.specs.Prelude.{◌≡◌, ◌<◌, ◌≤◌, length};
 ghost use Rattle.cases.specs.Tally.{bumped, noted, noted_twice, counted, Read};
 
-use libc::{STDIN_FILENO, STDOUT_FILENO};
+use std::io;
+use std::io::{Print, Read};
 
 const UNKNOWN: usize = 30;
 
@@ -12,7 +13,7 @@ fn bump(tally: &mut [u64; 64], at: usize)
     requires { at < 64 }
     ensures { tally.new ≡ bumped tally.old at }
 {
-    tally[at] = std::num::wrapping_add_u64(tally[at], 1);
+    tally[at] = tally[at].wrapping_add(1);
 }
 
 fn note(tally: &mut [u64; 64], entry: usize, ok: bool)
@@ -47,13 +48,28 @@ pub fn count(tally: &mut [u64; 64], n: u64, id: u64, ok: bool)
     note_twice(tally, UNKNOWN, false);
 }
 
+// Reads until the record is full, the input ends or a read fails, and returns how many bytes there
+// are at its start.
+fn read_full<I: Read>(input: &mut I, bytes: &mut [u8]) -> usize
+    ensures { result ≤ length bytes.new }
+{
+    let mut done: usize = 0;
+    while done < bytes.len() {
+        match input.read(&mut bytes[done..]) {
+            Ok(0) | Err(_) => return done,
+            Ok(n) => done += n,
+        }
+    }
+    done
+}
+
 // Reads the next record, and answers whether there is a whole one. A part of one at the end is a
 // mismatch.
-pub fn next(record: &mut [u8], tally: &mut [u64; 64]) -> bool
+pub fn next<I: Read>(input: &mut I, bytes: &mut [u8], tally: &mut [u64; 64]) -> bool
     ensures { Read result tally.old tally.new }
 {
-    let n = io::read_full(STDIN_FILENO, record);
-    if n == record.len() {
+    let n = read_full(input, bytes);
+    if n == bytes.len() {
         return true;
     }
     if n == 0 {
@@ -64,21 +80,19 @@ pub fn next(record: &mut [u8], tally: &mut [u64; 64]) -> bool
 }
 
 // Writes the line of an entry: NAME cases C mismatches M.
-pub fn line(name: &[u8], tally: &[u64; 64], entry: usize)
+pub fn line<O: Print>(out: &O, name: &[u8], tally: &[u64; 64], entry: usize) -> io::Result<()>
     requires { entry < 32 }
 {
-    io::write_all(STDOUT_FILENO, name);
-    io::write_all(STDOUT_FILENO, b" cases ");
-    io::print_decimal(STDOUT_FILENO, tally[entry]);
-    io::write_all(STDOUT_FILENO, b" mismatches ");
-    io::print_decimal(STDOUT_FILENO, tally[entry + 32]);
-    io::write_all(STDOUT_FILENO, b"\n");
+    out.write_all(name)?;
+    let cases = tally[entry];
+    let mismatches = tally[entry + 32];
+    println!(out; " cases {cases} mismatches {mismatches}")
 }
 
 // Writes the last lines: what was no case of a function, if anything, and the total.
-pub fn end(tally: &[u64; 64]) {
+pub fn end<O: Print>(out: &O, tally: &[u64; 64]) -> io::Result<()> {
     if tally[UNKNOWN] > 0 {
-        line(b"unknown", tally, UNKNOWN);
+        line(out, b"unknown", tally, UNKNOWN)?;
     }
-    line(b"total", tally, TOTAL);
+    line(out, b"total", tally, TOTAL)
 }
