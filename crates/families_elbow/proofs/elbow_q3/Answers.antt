@@ -18,8 +18,7 @@ use Rattle.answers.specs.declared.Answer.{Answer}
 use Rattle.answers.proofs.Laws.{by_name}
 use Rattle.families_elbow.specs.Elbow.{elbow_q3}
 use Rattle.families_shared.specs.declared.Units.{Units}
-use Rattle.families_elbow.proofs.elbow_q3.Statement.{statement}
-use Rattle.families_elbow.proofs.elbow_q3.Tie as tie
+use Rattle.families_elbow.proofs.elbow_q3.Goals as goal
 
 met : (kin : Kinematics) (tolerance : Float) (d_inner : Vector3) (theta14 q1 q5 q6 : Float) (is-ls : Bool) (q3 : Float)
     {r : Matrix}
@@ -41,10 +40,10 @@ met : (kin : Kinematics) (tolerance : Float) (d_inner : Vector3) (theta14 q1 q5 
 unfolding elbow_q3
 met kin tolerance d_inner theta14 q1 q5 q6 is-ls q3 e1 e2 e3 e4 e5 e6 w = by_name (cc) w
 
-ahead-requires : tie.Need-ahead-requires
-ahead-requires c κs = ap (λ (u : Units). u.h2) c.before.before.requires
+pub ahead-requires : goal.ahead-requires
+ahead-requires c = ap (λ (u : Units). u.h2) c.before.before.requires
 
-returns : tie.Need-returns
+pub returns : goal.returns
 returns c =
     let at-put = c.before.before.before.before in
     let at-either = at-put.before.before.before in
@@ -52,21 +51,6 @@ returns c =
     let at-q2 = at-q4.before in
     let at-add = at-q2.before in
     let at-apply = at-add.before in
-    met _ _ _ _ _ _ _ _ _ at-apply.before.ahead.ensures at-apply.apply.ensures at-add.add.ensures
-    at-q2.subproblem1_within.ensures at-q4.q4.ensures at-either.either.ensures
+    met _ _ _ _ _ _ _ _ _ at-apply.before.ahead.ensures at-apply.apply-rotated.ensures at-add.add.ensures
+    at-q2.subproblem1_within-s.ensures at-q4.q4.ensures at-either.either.ensures
     at-put.put.ensures
-
-pub elbow-q3-spec : {M : Type 1} → statement M
-elbow-q3-spec =
-    tie.close
-    (tie.spec
-    ahead-requires
-    (λ _ _. tt)
-    (λ _ _. tt)
-    (λ _ _. tt)
-    (λ _ _. tt)
-    (λ _ _. tt)
-    (λ _ _. tt)
-    (λ c. search rules)
-    (λ c. search rules)
-    returns)
