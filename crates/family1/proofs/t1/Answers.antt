@@ -8,8 +8,7 @@ use Rattle.subproblems.specs.Subproblem4.{subproblem4}
 use Rattle.subproblems.specs.declared.Solved2.{Solved2}
 use Rattle.kinematics.specs.declared.Kinematics.{Kinematics}
 use Rattle.family1.specs.SphericalTwoParallel.{t1}
-use Rattle.family1.proofs.t1.Statement.{statement}
-use Rattle.family1.proofs.t1.Tie as tie
+use Rattle.family1.proofs.t1.Goals as goal
 
 met : (r-0t : Matrix) (p_0t : Vector3) (kin : Kinematics) {moved p₀ p s₀ s k : Vector3} {d : Float} {t : Solved2}
     → moved ≡ apply r-0t kin.p6
@@ -24,19 +23,5 @@ met : (r-0t : Matrix) (p_0t : Vector3) (kin : Kinematics) {moved p₀ p s₀ s k
 unfolding t1
 met r-0t p_0t kin e1 e2 e3 e4 e5 e6 e7 e8 = cc
 
-returns : tie.Need-returns
+pub returns : goal.returns
 returns c = search met
-
-pub t1-spec : {M : Type 1} → statement M
-t1-spec =
-    tie.close
-    (tie.spec
-    (λ _ _. tt)
-    (λ _ _. tt)
-    (λ _ _. tt)
-    (λ _ _. tt)
-    (λ _ _. tt)
-    (λ _ _. tt)
-    (λ _ _. tt)
-    (λ _ _. tt)
-    returns)

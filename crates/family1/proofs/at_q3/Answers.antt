@@ -15,8 +15,7 @@ use Rattle.answers.proofs.Laws.{by_name}
 use Rattle.family1.specs.SphericalTwoParallel.{q2, at_q3}
 use Rattle.families_wrist.specs.Wrist.{r_36, wrist}
 use Rattle.families_shared.specs.declared.Units.{Units}
-use Rattle.family1.proofs.at_q3.Statement.{statement}
-use Rattle.family1.proofs.at_q3.Tie as tie
+use Rattle.family1.proofs.at_q3.Goals as goal
 
 met : (r-0t : Matrix) (kin : Kinematics) (tolerance : Float) (p_13 : Vector3) (q1 : Float) (q1-is-ls q3-is-ls : Bool) (q3 : Float)
     {r-10 r-32 r-21 r : Matrix}
@@ -36,19 +35,19 @@ met : (r-0t : Matrix) (kin : Kinematics) (tolerance : Float) (p_13 : Vector3) (q
 unfolding at_q3 r_36
 met r-0t kin tolerance p_13 q1 q1-is-ls q3-is-ls q3 e1 e2 e3 e4 e5 e6 w = by_name (cc) w
 
-q2-requires : tie.Need-q2-requires
-q2-requires c κs = c.before.before.requires.0
+pub q2-s-requires : goal.q2-s-requires
+q2-s-requires c = c.before.before.requires.0
 
-back-requires : tie.Need-back-requires
-back-requires c κs = ap (λ (u : Units). u.h3) c.before.before.before.before.requires.0
+pub back-r_32-requires : goal.back-r_32-requires
+back-r_32-requires c = ap (λ (u : Units). u.h3) c.before.before.before.before.requires.0
 
-back-requires-2 : tie.Need-back-requires-2
-back-requires-2 c κs = ap (λ (u : Units). u.h2) c.before.before.before.before.before.requires.0
+pub back-r_21-requires : goal.back-r_21-requires
+back-r_21-requires c = ap (λ (u : Units). u.h2) c.before.before.before.before.before.requires.0
 
-wrist-requires : tie.Need-wrist-requires
-wrist-requires c κs = c.before.before.before.before.before.before.before.before.before.requires.0
+pub wrist-requires : goal.wrist-requires
+wrist-requires c = c.before.before.before.before.before.before.before.before.before.requires.0
 
-returns : tie.Need-returns
+pub returns : goal.returns
 returns c =
     let at-wrist = c.before.before.before.before in
     let at-product = at-wrist.before.before.before in
@@ -56,20 +55,6 @@ returns c =
     let at_back = at-back2.before in
     let at-any3 = at_back.before in
     let at-q2 = at-any3.before in
-    met _ _ _ _ _ _ _ _ at-q2.before.before.before.requires.1 at-q2.q2.ensures at-any3.any3.ensures at_back.back.ensures
-    at-back2.back2.ensures at-product.product4.ensures
+    met _ _ _ _ _ _ _ _ at-q2.before.before.before.requires.1 at-q2.q2-s.ensures at-any3.any3-is_ls.ensures at_back.back-r_32.ensures
+    at-back2.back-r_21.ensures at-product.product4-r_36.ensures
     at-wrist.wrist.ensures
-
-pub at-q3-spec : {M : Type 1} → statement M
-at-q3-spec =
-    tie.close
-    (tie.spec
-    q2-requires
-    (λ _ _. tt)
-    back-requires
-    back-requires-2
-    (λ _ _. tt)
-    wrist-requires
-    (λ c. search rules)
-    (λ c. search rules)
-    returns)

@@ -19,15 +19,7 @@ use Rattle.family1.specs.SphericalTwoParallel.{p_13, t3, at_q3, at_q1}
 use Rattle.families_shared.specs.declared.Units.{Units}
 use Rattle.families_shared.proofs.Few.{few_of}
 use Rattle.family1.proofs.Few.{f1_at_q3_few}
-use Rattle.family1.proofs.at_q1.Statement.{statement}
-use Rattle.family1.proofs.at_q1.Tie as tie
-
-abbrev invariant-loop : tie.invariant-loop
-invariant-loop r-0t kin unit tolerance q1-is-ls q1 angles₀ flags₀ r-10 p set q3-is-ls n k₀ i₀ angles flags k i =
-    Steps (at_q3 r-0t kin tolerance p q1 q1-is-ls q3-is-ls) (get_all set) n 2 angles₀ flags₀ angles flags k i
-
-abbrev decreases-loop : tie.decreases-loop
-decreases-loop r-0t kin unit tolerance q1-is-ls q1 angles₀ flags₀ r-10 p set q3-is-ls n k₀ i₀ angles flags k i = n - i
+use Rattle.family1.proofs.at_q1.Goals as goal
 
 met : (r-0t : Matrix) (p_0t : Vector3) (kin : Kinematics) (tolerance : Float) (q1-is-ls : Bool) (q1 : Float)
     {origin rotated p : Vector3}
@@ -47,73 +39,49 @@ met : (r-0t : Matrix) (p_0t : Vector3) (kin : Kinematics) (tolerance : Float) (q
 unfolding at_q1 p_13
 met r-0t p_0t kin tolerance q1-is-ls q1 e1 e2 e3 e4 e5 h t = by_name (cc) (end _ _ _ 2 h t)
 
-back-requires : tie.Need-back-requires invariant-loop decreases-loop
-back-requires c κs = ap (λ (u : Units). u.h1) c.before.before.requires.0
+pub back-r_10-requires : goal.back-r_10-requires
+back-r_10-requires c = ap (λ (u : Units). u.h1) c.before.before.requires.0
 
-loop-holds : tie.Need-loop-init invariant-loop decreases-loop
-loop-holds c = start _ _ _ _ _ _ (search) (search few_of)
+pub loop-i-init : goal.loop-i-init
+loop-i-init c = start _ _ _ _ _ _ (search) (search few_of)
 
-at-q3-requires : tie.Need-at-q3-requires invariant-loop decreases-loop
-at-q3-requires c κs =
+pub at_q3-k-requires : goal.at_q3-k-requires
+at_q3-k-requires c =
     let sized = c.before.before.before.before.before.before.before in
     let at_back = sized.before.before.before.before in
-    (at_back.before.before.before.requires.0, at_back.back.ensures)
+    (at_back.before.before.before.requires.0, at_back.back-r_10.ensures)
 
-add-k : tie.Need-overflow-add-k invariant-loop decreases-loop
-add-k c =
+pub overflow_add-k : goal.overflow_add-k
+overflow_add-k c =
     let called = c.before.before.before.before in
     let tested = called.before.before.before.before.before.before in
-    omega (arith, small_sum _ _ _ 2 (f1_at_q3_few _ _ _ _ _ _ _) tested.before.loop.invariant called.at_q3.ensures)
+    omega (arith, small_sum _ _ _ 2 (f1_at_q3_few _ _ _ _ _ _ _) tested.before.loop-i.invariant called.at_q3-k.ensures)
 
-loop-again : tie.Need-loop-preserved invariant-loop decreases-loop
-loop-again c =
+pub loop-i-preserved : goal.loop-i-preserved
+loop-i-preserved c =
     let called = c.before.before.before.before in
     let on = called.before.before.before in
     let at = on.before in
     let picked = at.before in
     let tested = picked.before in
-    again _ _ _ _ _ (f1_at_q3_few _ _ _ _ _ _ _) tested.before.loop.invariant tested.loop-test.true picked.at.ensures
-    at.rest.ensures on.rest2.ensures
-    called.at_q3.ensures
+    again _ _ _ _ _ (f1_at_q3_few _ _ _ _ _ _ _) tested.before.loop-i.invariant tested.loop-i-test.true picked.at-q3.ensures
+    at.rest-at.ensures on.rest-on.ensures
+    called.at_q3-k.ensures
 
-returns : tie.Need-returns invariant-loop decreases-loop
+pub returns : goal.returns
 returns c =
     let at-t3 = c.before.before.before in
     let at-add = at-t3.before in
     let at-apply = at-add.before in
     let at_back = at-apply.before in
-    met _ _ _ _ _ _ at_back.before.before.before.requires.1 at_back.back.ensures at-apply.apply.ensures at-add.add.ensures
-    at-t3.t3.ensures c.loop-test.false
-    c.before.loop.invariant
+    met _ _ _ _ _ _ at_back.before.before.before.requires.1 at_back.back-r_10.ensures at-apply.apply.ensures at-add.add-p_13.ensures
+    at-t3.t3-t.ensures c.loop-i-test.false
+    c.before.loop-i.invariant
 
-pub at-q1-spec : {M : Type 1} → statement M
-at-q1-spec =
-    tie.close
-    (tie.spec
-    invariant-loop
-    decreases-loop
-    back-requires
-    (λ _ _. tt)
-    (λ _ _. tt)
-    (λ _ _. tt)
-    (λ _ _. tt)
-    loop-holds
-    (λ c κs. search rules)
-    (λ c. omega arith)
-    (λ _ _. tt)
-    (λ _ _. tt)
-    (λ c. search rules)
-    (λ c. search rules)
-    (λ c. search rules)
-    (λ c. search rules)
-    (λ c. search rules)
-    (λ c. search rules)
-    (λ c. search rules)
-    at-q3-requires
-    add-k
-    (λ c. search rules)
-    (λ c. search rules)
-    loop-again
-    (λ c. search angles_kept)
-    (λ c. search flags_kept)
-    returns)
+pub shape_of-angles : goal.shape_of-angles
+shape_of-angles c =
+    search angles_kept
+
+pub shape_of-flags : goal.shape_of-flags
+shape_of-flags c =
+    search flags_kept

@@ -9,8 +9,7 @@ use Rattle.subproblems.specs.declared.Solved1.{Solved1}
 use Rattle.kinematics.specs.declared.Kinematics.{Kinematics}
 use Rattle.family1.specs.SphericalTwoParallel.{q2}
 use Rattle.families_shared.specs.declared.Units.{Units}
-use Rattle.family1.proofs.q2.Statement.{statement}
-use Rattle.family1.proofs.q2.Tie as tie
+use Rattle.family1.proofs.q2.Goals as goal
 
 met : (kin : Kinematics) (tolerance : Float) (p_13 : Vector3) (q3 : Float) {r : Matrix} {rotated back p : Vector3} {t : Solved1}
     → r ≡ rot kin.h3 q3
@@ -22,19 +21,8 @@ met : (kin : Kinematics) (tolerance : Float) (p_13 : Vector3) (q3 : Float) {r : 
 unfolding q2
 met kin tolerance p_13 q3 e1 e2 e3 e4 e5 = cc
 
-ahead-requires : tie.Need-ahead-requires
-ahead-requires c κs = ap (λ (u : Units). u.h3) c.requires
+pub ahead-requires : goal.ahead-requires
+ahead-requires c = ap (λ (u : Units). u.h3) c.requires
 
-returns : tie.Need-returns
+pub returns : goal.returns
 returns c = search met
-
-pub q2-spec : {M : Type 1} → statement M
-q2-spec =
-    tie.close
-    (tie.spec
-    ahead-requires
-    (λ _ _. tt)
-    (λ _ _. tt)
-    (λ _ _. tt)
-    (λ _ _. tt)
-    returns)
