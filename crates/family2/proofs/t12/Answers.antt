@@ -9,8 +9,7 @@ use Rattle.subproblems.specs.declared.SolvedPairs2.{SolvedPairs2}
 use Rattle.kinematics.specs.declared.Kinematics.{Kinematics}
 use Rattle.family2.specs.SphericalTwoIntersecting.{t12}
 use Rattle.families_shared.specs.declared.Units.{Units}
-use Rattle.family2.proofs.t12.Statement.{statement}
-use Rattle.family2.proofs.t12.Tie as tie
+use Rattle.family2.proofs.t12.Goals as goal
 
 met : (kin : Kinematics) (p_16 : Vector3) (q3 : Float) {r : Matrix} {rotated p k : Vector3} {t : SolvedPairs2}
     → r ≡ rot kin.h3 q3
@@ -22,19 +21,8 @@ met : (kin : Kinematics) (p_16 : Vector3) (q3 : Float) {r : Matrix} {rotated p k
 unfolding t12
 met kin p_16 q3 e1 e2 e3 e4 e5 = cc
 
-ahead-requires : tie.Need-ahead-requires
-ahead-requires c κs = ap (λ (u : Units). u.h3) c.requires
+pub ahead-requires : goal.ahead-requires
+ahead-requires c = ap (λ (u : Units). u.h3) c.requires
 
-returns : tie.Need-returns
+pub returns : goal.returns
 returns c = search met
-
-pub t12-spec : {M : Type 1} → statement M
-t12-spec =
-    tie.close
-    (tie.spec
-    ahead-requires
-    (λ _ _. tt)
-    (λ _ _. tt)
-    (λ _ _. tt)
-    (λ _ _. tt)
-    returns)

@@ -14,8 +14,7 @@ use Rattle.answers.proofs.Laws.{by_name}
 use Rattle.family2.specs.SphericalTwoIntersecting.{at_q12}
 use Rattle.families_wrist.specs.Wrist.{r_36, wrist}
 use Rattle.families_shared.specs.declared.Units.{Units}
-use Rattle.family2.proofs.at_q12.Statement.{statement}
-use Rattle.family2.proofs.at_q12.Tie as tie
+use Rattle.family2.proofs.at_q12.Goals as goal
 
 met : (r-0t : Matrix) (kin : Kinematics) (tolerance : Float) (q3 : Float) (is-ls : Bool) (q12 : Pair)
     {r-10 r-32 r-21 r : Matrix}
@@ -31,33 +30,21 @@ met : (r-0t : Matrix) (kin : Kinematics) (tolerance : Float) (q3 : Float) (is-ls
 unfolding at_q12 r_36
 met r-0t kin tolerance q3 is-ls q12 e1 e2 e3 e4 w = by_name (cc) w
 
-back-requires : tie.Need-back-requires
-back-requires c κs = ap (λ (u : Units). u.h2) c.before.before.requires.0
+pub back-r_21-requires : goal.back-r_21-requires
+back-r_21-requires c = ap (λ (u : Units). u.h2) c.before.before.requires.0
 
-back-requires-2 : tie.Need-back-requires-2
-back-requires-2 c κs = ap (λ (u : Units). u.h1) c.before.before.before.requires.0
+pub back-r_10-requires : goal.back-r_10-requires
+back-r_10-requires c = ap (λ (u : Units). u.h1) c.before.before.before.requires.0
 
-wrist-requires : tie.Need-wrist-requires
-wrist-requires c κs = c.before.before.before.before.before.before.before.requires.0
+pub wrist-requires : goal.wrist-requires
+wrist-requires c = c.before.before.before.before.before.before.before.requires.0
 
-returns : tie.Need-returns
+pub returns : goal.returns
 returns c =
     let at-wrist = c.before.before.before.before in
     let at-product = at-wrist.before.before.before in
     let at-back2 = at-product.before in
     let at_back = at-back2.before in
-    met _ _ _ _ _ _ at_back.before.before.before.requires.1 at_back.back.ensures at-back2.back2.ensures
-    at-product.product4.ensures
+    met _ _ _ _ _ _ at_back.before.before.before.requires.1 at_back.back-r_21.ensures at-back2.back-r_10.ensures
+    at-product.product4-r_36.ensures
     at-wrist.wrist.ensures
-
-pub at-q12-spec : {M : Type 1} → statement M
-at-q12-spec =
-    tie.close
-    (tie.spec
-    back-requires
-    back-requires-2
-    (λ _ _. tt)
-    wrist-requires
-    (λ c. search rules)
-    (λ c. search rules)
-    returns)
