@@ -16,8 +16,7 @@ use Rattle.answers.proofs.Laws.{by_name}
 use Rattle.families_elbow.specs.Elbow.{theta14, elbow}
 use Rattle.family4.specs.ThreeParallelTwoIntersecting.{d_inner, q6, at_q5}
 use Rattle.families_shared.specs.declared.Units.{Units}
-use Rattle.family4.proofs.at_q5.Statement.{statement}
-use Rattle.family4.proofs.at_q5.Tie as tie
+use Rattle.family4.proofs.at_q5.Goals as goal
 
 met : (r_06 : Matrix) (kin : Kinematics) (tolerance : Float) (p_16 : Vector3) (r-01 : Matrix) (q1 : Float) (theta1-is-ls theta5-is-ls : Bool) (q5 : Float)
     {r-10 r-45 r-14 : Matrix}
@@ -41,19 +40,19 @@ met : (r_06 : Matrix) (kin : Kinematics) (tolerance : Float) (p_16 : Vector3) (r
 unfolding at_q5 theta14 d_inner
 met r_06 kin tolerance p_16 r-01 q1 theta1-is-ls theta5-is-ls q5 e1 e2 e3 e4 e5 e6 e7 e8 e9 w = by_name (cc) w
 
-ahead-requires : tie.Need-ahead-requires
-ahead-requires c κs = ap (λ (u : Units). u.h5) c.before.before.requires.0
+pub ahead-r_45-requires : goal.ahead-r_45-requires
+ahead-r_45-requires c = ap (λ (u : Units). u.h5) c.before.before.requires.0
 
-ahead-requires-2 : tie.Need-ahead-requires-2
-ahead-requires-2 c κs = ap (λ (u : Units). u.h2) c.before.before.before.before.requires.0
+pub ahead-r_14-requires : goal.ahead-r_14-requires
+ahead-r_14-requires c = ap (λ (u : Units). u.h2) c.before.before.before.before.requires.0
 
-q6-requires : tie.Need-q6-requires
-q6-requires c κs = c.before.before.before.before.before.before.requires.1
+pub q6-s-requires : goal.q6-s-requires
+q6-s-requires c = c.before.before.before.before.before.before.requires.1
 
-elbow-requires : tie.Need-elbow-requires
-elbow-requires c κs = c.before.before.before.before.before.before.before.before.before.before.requires.0
+pub elbow-requires : goal.elbow-requires
+elbow-requires c = c.before.before.before.before.before.before.before.before.before.before.requires.0
 
-returns : tie.Need-returns
+pub returns : goal.returns
 returns c =
     let at-elbow = c.before.before.before.before in
     let at-any4 = at-elbow.before.before.before in
@@ -63,21 +62,6 @@ returns c =
     let at-theta14 = at-r14.before in
     let at-r45 = at-theta14.before in
     let pre = at-r45.before.before.before.requires in
-    met _ _ _ _ _ _ _ _ _ pre.1 pre.2 pre.3 at-r45.ahead.ensures at-theta14.theta14.ensures at-r14.ahead2.ensures
-    at-d.d_inner.ensures at-q6.q6.ensures at-any4.any4.ensures
+    met _ _ _ _ _ _ _ _ _ pre.1 pre.2 pre.3 at-r45.ahead-r_45.ensures at-theta14.theta14-t.ensures at-r14.ahead-r_14.ensures
+    at-d.d_inner-d.ensures at-q6.q6-s.ensures at-any4.any4-is_ls.ensures
     at-elbow.elbow.ensures
-
-pub at-q5-spec : {M : Type 1} → statement M
-at-q5-spec =
-    tie.close
-    (tie.spec
-    ahead-requires
-    (λ _ _. tt)
-    ahead-requires-2
-    (λ _ _. tt)
-    q6-requires
-    (λ _ _. tt)
-    elbow-requires
-    (λ c. search rules)
-    (λ c. search rules)
-    returns)

@@ -7,8 +7,7 @@ use Rattle.subproblems.specs.Subproblem4.{subproblem4}
 use Rattle.subproblems.specs.declared.Solved2.{Solved2}
 use Rattle.kinematics.specs.declared.Kinematics.{Kinematics}
 use Rattle.family4.specs.ThreeParallelTwoIntersecting.{theta1}
-use Rattle.family4.proofs.theta1.Statement.{statement}
-use Rattle.family4.proofs.theta1.Tie as tie
+use Rattle.family4.proofs.theta1.Goals as goal
 
 met : (kin : Kinematics) (p_16 : Vector3) {s k : Vector3} {d : Float} {t : Solved2}
     → s ≡ column_sum kin.p1 kin.p2 kin.p3 kin.p4
@@ -19,15 +18,5 @@ met : (kin : Kinematics) (p_16 : Vector3) {s k : Vector3} {d : Float} {t : Solve
 unfolding theta1
 met kin p_16 e1 e2 e3 e4 = cc
 
-returns : tie.Need-returns
+pub returns : goal.returns
 returns c = search met
-
-pub theta1-spec : {M : Type 1} → statement M
-theta1-spec =
-    tie.close
-    (tie.spec
-    (λ _ _. tt)
-    (λ _ _. tt)
-    (λ _ _. tt)
-    (λ _ _. tt)
-    returns)

@@ -8,8 +8,7 @@ use Rattle.subproblems.specs.Subproblem4.{subproblem4}
 use Rattle.subproblems.specs.declared.Solved2.{Solved2}
 use Rattle.kinematics.specs.declared.Kinematics.{Kinematics}
 use Rattle.family4.specs.ThreeParallelTwoIntersecting.{theta5}
-use Rattle.family4.proofs.theta5.Statement.{statement}
-use Rattle.family4.proofs.theta5.Tie as tie
+use Rattle.family4.proofs.theta5.Goals as goal
 
 met : (r_06 : Matrix) (kin : Kinematics) (r-01 : Matrix) {r-10 : Matrix} {u v : Vector3} {d : Float} {t : Solved2}
     → r-10 ≡ transpose r-01
@@ -21,15 +20,5 @@ met : (r_06 : Matrix) (kin : Kinematics) (r-01 : Matrix) {r-10 : Matrix} {u v : 
 unfolding theta5
 met r_06 kin r-01 e1 e2 e3 e4 e5 = cc
 
-returns : tie.Need-returns
+pub returns : goal.returns
 returns c = search met
-
-pub theta5-spec : {M : Type 1} → statement M
-theta5-spec =
-    tie.close
-    (tie.spec
-    (λ _ _. tt)
-    (λ _ _. tt)
-    (λ _ _. tt)
-    (λ _ _. tt)
-    returns)

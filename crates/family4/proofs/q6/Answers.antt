@@ -7,8 +7,7 @@ use Rattle.subproblems.specs.Subproblem1.{subproblem1_within}
 use Rattle.subproblems.specs.declared.Solved1.{Solved1}
 use Rattle.kinematics.specs.declared.Kinematics.{Kinematics}
 use Rattle.family4.specs.ThreeParallelTwoIntersecting.{q6}
-use Rattle.family4.proofs.q6.Statement.{statement}
-use Rattle.family4.proofs.q6.Tie as tie
+use Rattle.family4.proofs.q6.Goals as goal
 
 met : (r_06 : Matrix) (kin : Kinematics) (tolerance : Float) (r-01 r-45 r-14 : Matrix) {r-10 r-54 r-41 r-50 : Matrix} {p : Vector3} {t : Solved1}
     → r-10 ≡ transpose r-01
@@ -21,16 +20,5 @@ met : (r_06 : Matrix) (kin : Kinematics) (tolerance : Float) (r-01 r-45 r-14 : M
 unfolding q6
 met r_06 kin tolerance r-01 r-45 r-14 e1 e2 e3 e4 e5 e6 = cc
 
-returns : tie.Need-returns
+pub returns : goal.returns
 returns c = search met
-
-pub q6-spec : {M : Type 1} → statement M
-q6-spec =
-    tie.close
-    (tie.spec
-    (λ _ _. tt)
-    (λ _ _. tt)
-    (λ _ _. tt)
-    (λ _ _. tt)
-    (λ _ _. tt)
-    returns)
