@@ -8,8 +8,7 @@ use Rattle.solutionset.specs.declared.pairs.PairSet4.{PairSet4}
 use Rattle.qr.specs.declared.Vector4.{Vector4}
 use Rattle.subproblem6.specs.Subproblem6.{row, entry, plane, unit_points, thetas, at, subproblem6}
 use Rattle.subproblem6.specs.declared.Plane.{Plane}
-use Rattle.subproblem6.proofs.sp6.subproblem6.Statement.{statement}
-use Rattle.subproblem6.proofs.sp6.subproblem6.Tie as tie
+use Rattle.subproblem6.proofs.sp6.subproblem6.Goals as goal
 
 met : (h k p : List Vector3) (d1 d2 : Float) {a0 a1 : Vector4} {b0 b1 : Float} {s : Plane} {xi r : PairSet4}
     → a0 ≡ row (at h 0) (at k 0) (at p 0) (at h 1) (at k 1) (at p 1)
@@ -23,30 +22,5 @@ met : (h k p : List Vector3) (d1 d2 : Float) {a0 a1 : Vector4} {b0 b1 : Float} {
 unfolding subproblem6
 met h k p d1 d2 e1 e2 e3 e4 e5 e6 e7 = cc
 
-returns : tie.Need-returns
+pub returns : goal.returns
 returns c = search met
-
-pub subproblem6-spec : {M : Type 1} → statement M
-subproblem6-spec =
-    tie.close
-    (tie.spec
-    (λ c. search rules)
-    (λ c. search rules)
-    (λ c. search rules)
-    (λ c. search rules)
-    (λ c. search rules)
-    (λ c. search rules)
-    (λ c. search rules)
-    (λ c. search rules)
-    (λ c. search rules)
-    (λ c. search rules)
-    (λ c. search rules)
-    (λ c. search rules)
-    (λ _ _. tt)
-    (λ _ _. tt)
-    (λ _ _. tt)
-    (λ _ _. tt)
-    (λ _ _. tt)
-    (λ _ _. tt)
-    (λ _ _. tt)
-    returns)

@@ -7,8 +7,7 @@ use Rattle.qr.specs.declared.Vector4.{Vector4}
 use Rattle.subproblems.specs.Columns.{columns}
 use Rattle.subproblem6.specs.Subproblem6.{row}
 use Rattle.subproblems.specs.declared.Columns.{Columns}
-use Rattle.subproblem6.proofs.sp6.row.Statement.{statement}
-use Rattle.subproblem6.proofs.sp6.row.Tie as tie
+use Rattle.subproblem6.proofs.sp6.row.Goals as goal
 
 met : (hi ki pi hj kj pj : Vector3) {ai aj : Columns} {x y z w : Float}
     → ai ≡ columns ki pi
@@ -21,10 +20,5 @@ met : (hi ki pi hj kj pj : Vector3) {ai aj : Columns} {x y z w : Float}
 unfolding row
 met hi ki pi hj kj pj e1 e2 e3 e4 e5 e6 = cc
 
-returns : tie.Need-returns
+pub returns : goal.returns
 returns c = search met
-
-pub row-spec : {M : Type 1} → statement M
-row-spec =
-    tie.close
-    (tie.spec (λ _ _. tt) (λ _ _. tt) (λ _ _. tt) (λ _ _. tt) (λ _ _. tt) (λ _ _. tt) returns)

@@ -10,8 +10,7 @@ use Rattle.polynomial.specs.declared.Vector2.{Vector2}
 use Rattle.qr.specs.declared.Vector4.{Vector4}
 use Rattle.subproblem6.specs.Subproblem6.{plane}
 use Rattle.subproblem6.specs.declared.Plane.{Plane}
-use Rattle.subproblem6.proofs.sp6.plane.Statement.{statement}
-use Rattle.subproblem6.proofs.sp6.plane.Tie as tie
+use Rattle.subproblem6.proofs.sp6.plane.Goals as goal
 
 abbrev combined : Vector4 → Vector4 → Vector2 → Vector4
 combined q0 q1 y =
@@ -29,8 +28,5 @@ met : (a0 a1 : Vector4) (b : Vector2) {f : QrFactors} {y : Vector2}
 unfolding plane
 met a0 a1 b e1 e2 = cc
 
-returns : tie.Need-returns
+pub returns : goal.returns
 returns c = search met
-
-pub plane-spec : {M : Type 1} → statement M
-plane-spec = tie.close (tie.spec (λ _ _. tt) (λ _ _. tt) returns)

@@ -6,8 +6,7 @@ use Rattle.solutionset.specs.declared.pairs.PairSet4.{PairSet4}
 use Rattle.solutionset.specs.declared.pairs.PairSet4.TheVariants.{One, Two, Three, Four}
 use Rattle.subproblem6.specs.Subproblem6.{theta, thetas}
 use Rattle.subproblem6.specs.declared.Plane.{Plane}
-use Rattle.subproblem6.proofs.sp6.thetas.Statement.{statement}
-use Rattle.subproblem6.proofs.sp6.thetas.Tie as tie
+use Rattle.subproblem6.proofs.sp6.thetas.Goals as goal
 
 module _ (s : Plane) (xi : PairSet4) where
   of_one : {a t : Pair} → xi ≡ One a → t ≡ theta s a → One t ≡ thetas s xi
@@ -28,39 +27,14 @@ module _ (s : Plane) (xi : PairSet4) where
       → Four t u v w ≡ thetas s xi
   of_four e e1 e2 e3 e4 = cc
 
-returns-2 : tie.Need-returns-2
-returns-2 c = search of_one
+pub returns-in-One : goal.returns-in-One
+returns-in-One c = search of_one
 
-returns-3 : tie.Need-returns-3
-returns-3 c = search of_two
+pub returns-in-Two : goal.returns-in-Two
+returns-in-Two c = search of_two
 
-returns-4 : tie.Need-returns-4
-returns-4 c = search of_three
+pub returns-in-Three : goal.returns-in-Three
+returns-in-Three c = search of_three
 
-returns-5 : tie.Need-returns-5
-returns-5 c = search of_four
-
-pub thetas-spec : {M : Type 1} → statement M
-thetas-spec =
-    tie.close
-    (tie.spec
-    (λ c. search rules)
-    (λ c. search rules)
-    (λ _ _. tt)
-    (λ c. search rules)
-    (λ _ _. tt)
-    (λ _ _. tt)
-    (λ c. search rules)
-    (λ _ _. tt)
-    (λ _ _. tt)
-    (λ _ _. tt)
-    (λ c. search rules)
-    (λ _ _. tt)
-    (λ _ _. tt)
-    (λ _ _. tt)
-    (λ _ _. tt)
-    (λ c. search rules)
-    returns-2
-    returns-3
-    returns-4
-    returns-5)
+pub returns-in-Four : goal.returns-in-Four
+returns-in-Four c = search of_four
