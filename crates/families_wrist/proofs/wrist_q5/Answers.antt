@@ -16,8 +16,7 @@ use Rattle.answers.specs.declared.Answer.{Answer}
 use Rattle.answers.proofs.Laws.{by_name}
 use Rattle.families_wrist.specs.Wrist.{wrist_q5}
 use Rattle.families_shared.specs.declared.Units.{Units}
-use Rattle.families_wrist.proofs.wrist_q5.Statement.{statement}
-use Rattle.families_wrist.proofs.wrist_q5.Tie as tie
+use Rattle.families_wrist.proofs.wrist_q5.Goals as goal
 
 met : (kin : Kinematics) (tolerance : Float) (r_36 : Matrix) (q1 q2 q3 : Float) (is-ls : Bool) (q5 : Float)
     {to from p1 p1' k : Vector3}
@@ -42,13 +41,13 @@ met : (kin : Kinematics) (tolerance : Float) (r_36 : Matrix) (q1 q2 q3 : Float) 
 unfolding wrist_q5
 met kin tolerance r_36 q1 q2 q3 is-ls q5 e1 e2 e3 e4 e5 e6 e7 e8 e9 e10 w = by_name (cc) w
 
-ahead-requires : tie.Need-ahead-requires
-ahead-requires c κs = ap (λ (u : Units). u.h5) c.before.before.requires.0
+pub ahead-r_45-requires : goal.ahead-r_45-requires
+ahead-r_45-requires c = ap (λ (u : Units). u.h5) c.before.before.requires.unit_value
 
-back-requires : tie.Need-back-requires
-back-requires c κs = ap (λ (u : Units). u.h5) c.before.before.before.before.before.requires.0
+pub back-r_54-requires : goal.back-r_54-requires
+back-r_54-requires c = ap (λ (u : Units). u.h5) c.before.before.before.before.before.requires.unit_value
 
-returns : tie.Need-returns
+pub returns : goal.returns
 returns c =
     let at-put = c.before.before.before.before in
     let at-any3 = at-put.before.before.before in
@@ -60,24 +59,7 @@ returns c =
     let at-apply = at-q4.before in
     let at_ahead = at-apply.before in
     let pre = at_ahead.before.before.before.requires in
-    met _ _ _ _ _ _ _ _ pre.1.0 pre.1.1 at_ahead.ahead.ensures at-apply.apply.ensures at-q4.subproblem1_within.ensures
-    at_back.back.ensures at-apply2.apply2.ensures at-neg.neg.ensures at-q6.subproblem1-within2.ensures
+    met _ _ _ _ _ _ _ _ pre.to_value pre.from_value at_ahead.ahead-r_45.ensures at-apply.apply.ensures at-q4.subproblem1_within-q4.ensures
+    at_back.back-r_54.ensures at-apply2.apply-2.ensures at-neg.neg.ensures at-q6.subproblem1_within-q6.ensures
     at-any3.any3.ensures
     at-put.put.ensures
-
-pub wrist-q5-spec : {M : Type 1} → statement M
-wrist-q5-spec =
-    tie.close
-    (tie.spec
-    ahead-requires
-    (λ _ _. tt)
-    (λ _ _. tt)
-    back-requires
-    (λ _ _. tt)
-    (λ _ _. tt)
-    (λ _ _. tt)
-    (λ _ _. tt)
-    (λ _ _. tt)
-    (λ c. search rules)
-    (λ c. search rules)
-    returns)
