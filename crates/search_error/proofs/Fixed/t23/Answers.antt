@@ -6,8 +6,7 @@ use Rattle.linear.specs.declared.vector.Vector3.{Vector3}
 use Rattle.subproblems.specs.Subproblem1.{subproblem1_theta}
 use Rattle.search_error.specs.Fixed.{t23}
 use Rattle.search_error.specs.declared.Fixed.{Fixed}
-use Rattle.search_error.proofs.Fixed.t23.Statement.{statement}
-use Rattle.search_error.proofs.Fixed.t23.Tie as tie
+use Rattle.search_error.proofs.Fixed.t23.Goals as goal
 
 met : (g : Fixed) (r-16 r-34 : Matrix) {a b : Vector3} {r : Float}
     → a ≡ apply r-34 g.kin.h5
@@ -17,8 +16,5 @@ met : (g : Fixed) (r-16 r-34 : Matrix) {a b : Vector3} {r : Float}
 unfolding t23
 met g r-16 r-34 e1 e2 e3 = cc
 
-returns : tie.Need-returns
+pub returns : goal.returns
 returns c = search met
-
-pub t23-spec : {M : Type 1} → statement M
-t23-spec = tie.close (tie.spec (λ _ _. tt) (λ _ _. tt) (λ _ _. tt) returns)

@@ -10,8 +10,7 @@ use Rattle.families_shared.specs.Place.{p_16}
 use Rattle.search_error.specs.Error.{max_positive}
 use Rattle.search_error.specs.Fixed.{fixed}
 use Rattle.search_error.specs.declared.Fixed.{Fixed}
-use Rattle.search_error.proofs.Fixed.new.Statement.{statement}
-use Rattle.search_error.proofs.Fixed.new.Tie as tie
+use Rattle.search_error.proofs.Fixed.new.Goals as goal
 
 met : (kin : Kinematics) (r_06 : Matrix) (p_0t : Vector3) {u1 u2 u4 u6 m5 m6 p : Vector3} {n l : Float}
     → u1 ≡ normalize kin.h1
@@ -27,23 +26,5 @@ met : (kin : Kinematics) (r_06 : Matrix) (p_0t : Vector3) {u1 u2 u4 u6 m5 m6 p :
 unfolding fixed
 met kin r_06 p_0t e1 e2 e3 e4 e5 e6 e7 e8 e9 = cc
 
-returns : tie.Need-returns
+pub returns : goal.returns
 returns c = search met
-
-pub new_spec : {M : Type 1} → statement M
-new_spec =
-    tie.close
-    (tie.spec
-    (λ c. search rules)
-    (λ c. search rules)
-    (λ c. search rules)
-    (λ _ _. tt)
-    (λ _ _. tt)
-    (λ _ _. tt)
-    (λ _ _. tt)
-    (λ _ _. tt)
-    (λ _ _. tt)
-    (λ _ _. tt)
-    (λ _ _. tt)
-    (λ _ _. tt)
-    returns)

@@ -8,8 +8,7 @@ use Rattle.linear.specs.declared.vector.Vector3.{Vector3}
 use Rattle.search_error.specs.Fixed.{rotation, given_q1}
 use Rattle.search_error.specs.declared.Fixed.{Fixed}
 use Rattle.search_error.specs.declared.GivenQ1.{GivenQ1}
-use Rattle.search_error.proofs.Fixed.given_q1.Statement.{statement}
-use Rattle.search_error.proofs.Fixed.given_q1.Tie as tie
+use Rattle.search_error.proofs.Fixed.given_q1.Goals as goal
 
 met : (g : Fixed) (q1 : Float) {r-01 r-10 r_06 r-16 : Matrix} {a h b p : Vector3}
     → r-01 ≡ rot_unit g.u1 q1
@@ -24,22 +23,5 @@ met : (g : Fixed) (q1 : Float) {r-01 r-10 r_06 r-16 : Matrix} {a h b p : Vector3
 unfolding given_q1
 met g q1 e1 e2 e3 e4 e5 e6 e7 e8 = cc
 
-returns : tie.Need-returns
+pub returns : goal.returns
 returns c = search met
-
-pub given-q1-spec : {M : Type 1} → statement M
-given-q1-spec =
-    tie.close
-    (tie.spec
-    (λ _ _. tt)
-    (λ _ _. tt)
-    (λ _ _. tt)
-    (λ _ _. tt)
-    (λ _ _. tt)
-    (λ _ _. tt)
-    (λ _ _. tt)
-    (λ _ _. tt)
-    (λ c. search rules)
-    (λ c. search rules)
-    (λ c. search rules)
-    returns)

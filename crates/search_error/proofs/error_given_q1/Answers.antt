@@ -10,8 +10,7 @@ use Rattle.solutionset.specs.declared.pairs.PairSet4.TheVariants.{Zero, One, Two
 use Rattle.search_error.specs.Fixed.{given_q1, t64, answer_error, error_of}
 use Rattle.search_error.specs.declared.Fixed.{Fixed}
 use Rattle.search_error.specs.declared.GivenQ1.{GivenQ1}
-use Rattle.search_error.proofs.error_given_q1.Statement.{statement}
-use Rattle.search_error.proofs.error_given_q1.Tie as tie
+use Rattle.search_error.proofs.error_given_q1.Goals as goal
 
 -- each arm sets as many components as there are answers
 module _ (g : Fixed) (q1 : Float) {t : GivenQ1} {s : PairSet4} {i : Float} (et : t ≡ given_q1 g q1) (es : s ≡ t64 g t) (ei : i ≡ infinity) where
@@ -35,45 +34,17 @@ module _ (g : Fixed) (q1 : Float) {t : GivenQ1} {s : PairSet4} {i : Float} (et :
   unfolding error_of
   four e h k l m = cc
 
-returns : tie.Need-returns
-returns c = search none
+pub returns-in-Zero : goal.returns-in-Zero
+returns-in-Zero c = search none
 
-returns-2 : tie.Need-returns-2
-returns-2 c = search one
+pub returns-in-One : goal.returns-in-One
+returns-in-One c = search one
 
-returns-3 : tie.Need-returns-3
-returns-3 c = search two
+pub returns-in-Two : goal.returns-in-Two
+returns-in-Two c = search two
 
-returns-4 : tie.Need-returns-4
-returns-4 c = search three
+pub returns-in-Three : goal.returns-in-Three
+returns-in-Three c = search three
 
-returns-5 : tie.Need-returns-5
-returns-5 c = search four
-
-pub error-given-q1-spec : {M : Type 1} → statement M
-error-given-q1-spec =
-    tie.close
-    (tie.spec
-    (λ _ _. tt)
-    (λ _ _. tt)
-    (λ _ _. tt)
-    (λ c. search rules)
-    (λ c. search rules)
-    (λ _ _. tt)
-    (λ c. search rules)
-    (λ _ _. tt)
-    (λ _ _. tt)
-    (λ c. search rules)
-    (λ _ _. tt)
-    (λ _ _. tt)
-    (λ _ _. tt)
-    (λ c. search rules)
-    (λ _ _. tt)
-    (λ _ _. tt)
-    (λ _ _. tt)
-    (λ _ _. tt)
-    returns
-    returns-2
-    returns-3
-    returns-4
-    returns-5)
+pub returns-in-Four : goal.returns-in-Four
+returns-in-Four c = search four

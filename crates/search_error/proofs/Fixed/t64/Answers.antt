@@ -10,8 +10,7 @@ use Rattle.subproblem6.specs.Subproblem6.{subproblem6}
 use Rattle.search_error.specs.Fixed.{t64}
 use Rattle.search_error.specs.declared.Fixed.{Fixed}
 use Rattle.search_error.specs.declared.GivenQ1.{GivenQ1}
-use Rattle.search_error.proofs.Fixed.t64.Statement.{statement}
-use Rattle.search_error.proofs.Fixed.t64.Tie as tie
+use Rattle.search_error.proofs.Fixed.t64.Goals as goal
 
 met : (g : Fixed) (t : GivenQ1) {a b : Vector3} {d : Float} {r : PairSet4}
     → a ≡ t.p -ᵛ g.kin.p2
@@ -22,8 +21,5 @@ met : (g : Fixed) (t : GivenQ1) {a b : Vector3} {d : Float} {r : PairSet4}
 unfolding t64
 met g t e1 e2 e3 e4 = cc
 
-returns : tie.Need-returns
+pub returns : goal.returns
 returns c = search met
-
-pub t64-spec : {M : Type 1} → statement M
-t64-spec = tie.close (tie.spec (λ _ _. tt) (λ _ _. tt) (λ _ _. tt) (λ _ _. tt) returns)

@@ -7,8 +7,7 @@ use Rattle.linear.specs.declared.vector.Vector3.{Vector3}
 use Rattle.search_error.specs.Fixed.{t23, gap}
 use Rattle.search_error.specs.declared.Fixed.{Fixed}
 use Rattle.search_error.specs.declared.GivenQ1.{GivenQ1}
-use Rattle.search_error.proofs.Fixed.gap.Statement.{statement}
-use Rattle.search_error.proofs.Fixed.gap.Tie as tie
+use Rattle.search_error.proofs.Fixed.gap.Goals as goal
 
 met : (g : Fixed) (t : GivenQ1) (r-16 r-34 : Matrix) {θ : Float} {r-13 m : Matrix} {a b d e f s : Vector3} {n : Float}
     → θ ≡ t23 g r-16 r-34
@@ -25,21 +24,5 @@ met : (g : Fixed) (t : GivenQ1) (r-16 r-34 : Matrix) {θ : Float} {r-13 m : Matr
 unfolding gap
 met g t r-16 r-34 e1 e2 e3 e4 e5 e6 e7 e8 e9 e10 = cc
 
-returns : tie.Need-returns
+pub returns : goal.returns
 returns c = search met
-
-pub gap-spec : {M : Type 1} → statement M
-gap-spec =
-    tie.close
-    (tie.spec
-    (λ _ _. tt)
-    (λ _ _. tt)
-    (λ _ _. tt)
-    (λ _ _. tt)
-    (λ _ _. tt)
-    (λ _ _. tt)
-    (λ _ _. tt)
-    (λ _ _. tt)
-    (λ _ _. tt)
-    (λ _ _. tt)
-    returns)

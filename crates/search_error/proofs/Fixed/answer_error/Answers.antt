@@ -7,8 +7,7 @@ use Rattle.solutionset.specs.declared.pairs.Pair.{Pair}
 use Rattle.search_error.specs.Fixed.{rotation_given_q1, gap, answer_error}
 use Rattle.search_error.specs.declared.Fixed.{Fixed}
 use Rattle.search_error.specs.declared.GivenQ1.{GivenQ1}
-use Rattle.search_error.proofs.Fixed.answer_error.Statement.{statement}
-use Rattle.search_error.proofs.Fixed.answer_error.Tie as tie
+use Rattle.search_error.proofs.Fixed.answer_error.Goals as goal
 
 met : (g : Fixed) (t : GivenQ1) (a : Pair) {r-56 m r-65 r-16 r-34 : Matrix} {n : Float}
     → r-56 ≡ rot_unit g.u6 a.first
@@ -21,10 +20,5 @@ met : (g : Fixed) (t : GivenQ1) (a : Pair) {r-56 m r-65 r-16 r-34 : Matrix} {n :
 unfolding answer_error
 met g t a e1 e2 e3 e4 e5 e6 = cc
 
-returns : tie.Need-returns
+pub returns : goal.returns
 returns c = search met
-
-pub answer-error-spec : {M : Type 1} → statement M
-answer-error-spec =
-    tie.close
-    (tie.spec (λ _ _. tt) (λ _ _. tt) (λ _ _. tt) (λ _ _. tt) (λ _ _. tt) (λ _ _. tt) returns)
