@@ -8,8 +8,7 @@ use Rattle.subproblems.specs.Subproblem1.{subproblem1_within}
 use Rattle.subproblems.specs.declared.Solved1.{Solved1}
 use Rattle.kinematics.specs.declared.Kinematics.{Kinematics}
 use Rattle.family5.specs.ThreeParallel.{q6}
-use Rattle.family5.proofs.q6.Statement.{statement}
-use Rattle.family5.proofs.q6.Tie as tie
+use Rattle.family5.proofs.q6.Goals as goal
 
 met : (r_06 : Matrix) (kin : Kinematics) (tolerance : Float) (r-01 r-45 : Matrix) {r-54 r-60 r : Matrix} {p1 p2 k : Vector3} {t : Solved1}
     → r-54 ≡ transpose r-45
@@ -23,18 +22,5 @@ met : (r_06 : Matrix) (kin : Kinematics) (tolerance : Float) (r-01 r-45 : Matrix
 unfolding q6
 met r_06 kin tolerance r-01 r-45 e1 e2 e3 e4 e5 e6 e7 = cc
 
-returns : tie.Need-returns
+pub returns : goal.returns
 returns c = search met
-
-pub q6-spec : {M : Type 1} → statement M
-q6-spec =
-    tie.close
-    (tie.spec
-    (λ _ _. tt)
-    (λ _ _. tt)
-    (λ _ _. tt)
-    (λ _ _. tt)
-    (λ _ _. tt)
-    (λ _ _. tt)
-    (λ _ _. tt)
-    returns)

@@ -10,8 +10,7 @@ use Rattle.solutionset.specs.declared.pairs.PairSet4.{PairSet4}
 use Rattle.subproblem6.specs.Subproblem6.{subproblem6}
 use Rattle.kinematics.specs.declared.Kinematics.{Kinematics}
 use Rattle.family5.specs.ThreeParallel.{theta15}
-use Rattle.family5.proofs.theta15.Statement.{statement}
-use Rattle.family5.proofs.theta15.Tie as tie
+use Rattle.family5.proofs.theta15.Goals as goal
 
 met : (r_06 : Matrix) (kin : Kinematics) (p_16 : Vector3) {k1 s₀ s₁ s p1 p2 p3 : Vector3} {d : Float} {t : PairSet4}
     → k1 ≡ negᵛ kin.h1
@@ -27,7 +26,7 @@ met : (r_06 : Matrix) (kin : Kinematics) (p_16 : Vector3) {k1 s₀ s₁ s p1 p2 
 unfolding theta15
 met r_06 kin p_16 e1 e2 e3 e4 e5 e6 e7 e8 e9 = cc
 
-returns : tie.Need-returns
+pub returns : goal.returns
 returns c =
     let at-dot = c.before in
     let at-neg3 = at-dot.before in
@@ -36,21 +35,6 @@ returns c =
     let at-add3 = at-neg2.before in
     let at-add2 = at-add3.before in
     let at-add = at-add2.before in
-    met _ _ _ at-add.before.before.before.neg.ensures at-add.add.ensures at-add2.add2.ensures at-add3.add3.ensures
-    at-neg2.neg2.ensures at-apply.apply.ensures at-neg3.neg3.ensures at-dot.dot.ensures
+    met _ _ _ at-add.before.before.before.neg-h1.ensures at-add.add.ensures at-add2.add-2.ensures at-add3.add-sum.ensures
+    at-neg2.neg.ensures at-apply.apply.ensures at-neg3.neg-2.ensures at-dot.dot.ensures
     c.subproblem6.ensures
-
-pub theta15-spec : {M : Type 1} → statement M
-theta15-spec =
-    tie.close
-    (tie.spec
-    (λ _ _. tt)
-    (λ _ _. tt)
-    (λ _ _. tt)
-    (λ _ _. tt)
-    (λ _ _. tt)
-    (λ _ _. tt)
-    (λ _ _. tt)
-    (λ _ _. tt)
-    (λ _ _. tt)
-    returns)

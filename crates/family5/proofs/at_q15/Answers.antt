@@ -17,8 +17,7 @@ use Rattle.answers.proofs.Laws.{by_name}
 use Rattle.families_elbow.specs.Elbow.{theta14, elbow}
 use Rattle.family5.specs.ThreeParallel.{d_inner, q6, at_q15}
 use Rattle.families_shared.specs.declared.Units.{Units}
-use Rattle.family5.proofs.at_q15.Statement.{statement}
-use Rattle.family5.proofs.at_q15.Tie as tie
+use Rattle.family5.proofs.at_q15.Goals as goal
 
 met : (r_06 : Matrix) (kin : Kinematics) (tolerance : Float) (p_16 : Vector3) (q15 : Pair)
     {r-01 r-45 r-10 r-16 r-14 : Matrix}
@@ -44,19 +43,19 @@ met : (r_06 : Matrix) (kin : Kinematics) (tolerance : Float) (p_16 : Vector3) (q
 unfolding at_q15 theta14 d_inner
 met r_06 kin tolerance p_16 q15 e1 e2 e3 e4 e5 e6 e7 e8 e9 e10 e11 w = by_name (cc) w
 
-ahead-requires : tie.Need-ahead-requires
-ahead-requires c κs = ap (λ (u : Units). u.h1) c.before.before.requires
+pub ahead-r_01-requires : goal.ahead-r_01-requires
+ahead-r_01-requires c = ap (λ (u : Units). u.h1) c.before.before.requires
 
-ahead-requires-2 : tie.Need-ahead-requires-2
-ahead-requires-2 c κs = ap (λ (u : Units). u.h5) c.before.before.before.requires
+pub ahead-r_45-requires : goal.ahead-r_45-requires
+ahead-r_45-requires c = ap (λ (u : Units). u.h5) c.before.before.before.requires
 
-ahead-requires-3 : tie.Need-ahead-requires-3
-ahead-requires-3 c κs = ap (λ (u : Units). u.h2) c.before.before.before.before.before.before.before.before.before.requires
+pub ahead-r_14-requires : goal.ahead-r_14-requires
+ahead-r_14-requires c = ap (λ (u : Units). u.h2) c.before.before.before.before.before.before.before.before.before.requires
 
-elbow-requires : tie.Need-elbow-requires
-elbow-requires c κs = c.before.before.before.before.before.before.before.before.before.before.before.before.before.before.before.requires
+pub elbow-requires : goal.elbow-requires
+elbow-requires c = c.before.before.before.before.before.before.before.before.before.before.before.before.before.before.before.requires
 
-returns : tie.Need-returns
+pub returns : goal.returns
 returns c =
     let at-elbow = c.before.before.before.before in
     let at-either = at-elbow.before.before.before in
@@ -69,27 +68,7 @@ returns c =
     let at-product = at-to.before in
     let at-transpose = at-product.before in
     let at-r45 = at-transpose.before in
-    met _ _ _ _ _ at-r45.before.ahead.ensures at-r45.ahead2.ensures at-transpose.transpose.ensures
-    at-product.product.ensures at-to.apply.ensures at-theta14.theta14.ensures at-q6.q6.ensures at-r14.ahead3.ensures
-    at-reach.apply2.ensures at-d.d_inner.ensures at-either.either.ensures
+    met _ _ _ _ _ at-r45.before.ahead-r_01.ensures at-r45.ahead-r_45.ensures at-transpose.transpose-r_10.ensures
+    at-product.product.ensures at-to.apply-to.ensures at-theta14.theta14-t.ensures at-q6.q6-s.ensures at-r14.ahead-r_14.ensures
+    at-reach.apply.ensures at-d.d_inner-d.ensures at-either.either-is_ls.ensures
     at-elbow.elbow.ensures
-
-pub at-q15-spec : {M : Type 1} → statement M
-at-q15-spec =
-    tie.close
-    (tie.spec
-    ahead-requires
-    ahead-requires-2
-    (λ _ _. tt)
-    (λ _ _. tt)
-    (λ _ _. tt)
-    (λ _ _. tt)
-    (λ _ _. tt)
-    ahead-requires-3
-    (λ _ _. tt)
-    (λ _ _. tt)
-    (λ _ _. tt)
-    elbow-requires
-    (λ c. search rules)
-    (λ c. search rules)
-    returns)

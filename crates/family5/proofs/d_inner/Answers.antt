@@ -4,8 +4,7 @@ use Rattle.linear.specs.Matrix.{Matrix, product, apply}
 use Rattle.linear.specs.Vector.{◌-ᵛ◌}
 use Rattle.linear.specs.declared.vector.Vector3.{Vector3}
 use Rattle.kinematics.specs.declared.Kinematics.{Kinematics}
-use Rattle.family5.proofs.d_inner.Statement.{statement}
-use Rattle.family5.proofs.d_inner.Tie as tie
+use Rattle.family5.proofs.d_inner.Goals as goal
 
 met : (kin : Kinematics) (reach : Vector3) (r-45 r-14 : Matrix) {r : Matrix} {from4 d₀ d₁ rotated d : Vector3}
     → r ≡ product r-14 r-45
@@ -17,17 +16,5 @@ met : (kin : Kinematics) (reach : Vector3) (r-45 r-14 : Matrix) {r : Matrix} {fr
     → d ≡ reach -ᵛ kin.p1 -ᵛ apply (product r-14 r-45) kin.p5 -ᵛ apply r-14 kin.p4
 met kin reach r-45 r-14 e1 e2 e3 e4 e5 e6 = cc
 
-returns : tie.Need-returns
+pub returns : goal.returns
 returns c = search met
-
-pub d-inner-spec : {M : Type 1} → statement M
-d-inner-spec =
-    tie.close
-    (tie.spec
-    (λ _ _. tt)
-    (λ _ _. tt)
-    (λ _ _. tt)
-    (λ _ _. tt)
-    (λ _ _. tt)
-    (λ _ _. tt)
-    returns)
