@@ -11,8 +11,7 @@ use Rattle.search_error.specs.declared.Fixed.{Fixed}
 use Rattle.search_error.specs.declared.GivenQ1.{GivenQ1}
 use Rattle.family6_answers.specs.FixedAnswer.{answer, answer_at}
 use Rattle.family6_answers.specs.Pairs.{pair, Answered}
-use Rattle.family6_answers.proofs.answer_at.Statement.{statement}
-use Rattle.family6_answers.proofs.answer_at.Tie as tie
+use Rattle.family6_answers.proofs.answer_at.Goals as goal
 
 module _ (g : Fixed) (q1 : Float) (i : ℕ) {t : GivenQ1} {set : PairSet4} (et : t ≡ given_q1 g q1) (es : set ≡ t64 g t) where
   in_bounds : Answered g q1 i → i < size set
@@ -22,11 +21,8 @@ module _ (g : Fixed) (q1 : Float) (i : ℕ) {t : GivenQ1} {set : PairSet4} (et :
   unfolding answer_at
   met tolerance ea eq = cc
 
-at-requires : tie.Need-at-requires
-at-requires c κs = search in_bounds
+pub at-requires : goal.at-requires
+at-requires c = search in_bounds
 
-returns : tie.Need-returns
+pub returns : goal.returns
 returns c = search met
-
-pub answer-at-spec : {M : Type 1} → statement M
-answer-at-spec = tie.close (tie.spec (λ _ _. tt) (λ _ _. tt) at-requires (λ _ _. tt) returns)

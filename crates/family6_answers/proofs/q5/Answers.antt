@@ -8,8 +8,7 @@ use Rattle.subproblems.specs.declared.Solved1.{Solved1}
 use Rattle.search_error.specs.Fixed.{rotation}
 use Rattle.search_error.specs.declared.Fixed.{Fixed}
 use Rattle.family6_answers.specs.FixedAnswer.{q5}
-use Rattle.family6_answers.proofs.q5.Statement.{statement}
-use Rattle.family6_answers.proofs.q5.Tie as tie
+use Rattle.family6_answers.proofs.q5.Goals as goal
 
 met : (g : Fixed) (tolerance q1 : Float) (r-34 r-56 : Matrix)
     {r-01 r_06 r-60 r-50 r-43 r-51 : Matrix}
@@ -28,20 +27,5 @@ met : (g : Fixed) (tolerance q1 : Float) (r-34 r-56 : Matrix)
 unfolding q5
 met g tolerance q1 r-34 r-56 e1 e2 e3 e4 e5 e6 e7 e8 e9 = cc
 
-returns : tie.Need-returns
+pub returns : goal.returns
 returns c = search met
-
-pub q5-spec : {M : Type 1} → statement M
-q5-spec =
-    tie.close
-    (tie.spec
-    (λ _ _. tt)
-    (λ _ _. tt)
-    (λ _ _. tt)
-    (λ _ _. tt)
-    (λ _ _. tt)
-    (λ _ _. tt)
-    (λ _ _. tt)
-    (λ _ _. tt)
-    (λ _ _. tt)
-    returns)

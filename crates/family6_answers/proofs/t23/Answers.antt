@@ -7,8 +7,7 @@ use Rattle.subproblems.specs.Subproblem1.{subproblem1_within}
 use Rattle.subproblems.specs.declared.Solved1.{Solved1}
 use Rattle.search_error.specs.declared.Fixed.{Fixed}
 use Rattle.family6_answers.specs.FixedAnswer.{t23}
-use Rattle.family6_answers.proofs.t23.Statement.{statement}
-use Rattle.family6_answers.proofs.t23.Tie as tie
+use Rattle.family6_answers.proofs.t23.Goals as goal
 
 met : (g : Fixed) (tolerance : Float) (r-16 r-34 : Matrix) {p1 p2 : Vector3} {s : Solved1}
     → p1 ≡ apply r-34 g.kin.h5
@@ -18,8 +17,5 @@ met : (g : Fixed) (tolerance : Float) (r-16 r-34 : Matrix) {p1 p2 : Vector3} {s 
 unfolding t23
 met g tolerance r-16 r-34 e1 e2 e3 = cc
 
-returns : tie.Need-returns
+pub returns : goal.returns
 returns c = search met
-
-pub t23-spec : {M : Type 1} → statement M
-t23-spec = tie.close (tie.spec (λ _ _. tt) (λ _ _. tt) (λ _ _. tt) returns)

@@ -12,8 +12,7 @@ use Rattle.search_error.specs.Fixed.{rotation_given_q1}
 use Rattle.search_error.specs.declared.Fixed.{Fixed}
 use Rattle.search_error.specs.declared.GivenQ1.{GivenQ1}
 use Rattle.family6_answers.specs.FixedAnswer.{t23, q2, q5, answer}
-use Rattle.family6_answers.proofs.answer.Statement.{statement}
-use Rattle.family6_answers.proofs.answer.Tie as tie
+use Rattle.family6_answers.proofs.answer.Goals as goal
 
 met : (g : Fixed) (tolerance q1 : Float) (t : GivenQ1) (a : Pair)
     {r-34 r-56 m r-65 r-16 : Matrix}
@@ -34,21 +33,5 @@ met : (g : Fixed) (tolerance q1 : Float) (t : GivenQ1) (a : Pair)
 unfolding answer
 met g tolerance q1 t a e1 e2 e3 e4 e5 e6 e7 e8 e9 e10 = cc
 
-returns : tie.Need-returns
+pub returns : goal.returns
 returns c = search met
-
-pub answer-spec : {M : Type 1} → statement M
-answer-spec =
-    tie.close
-    (tie.spec
-    (λ _ _. tt)
-    (λ _ _. tt)
-    (λ _ _. tt)
-    (λ _ _. tt)
-    (λ _ _. tt)
-    (λ _ _. tt)
-    (λ _ _. tt)
-    (λ _ _. tt)
-    (λ _ _. tt)
-    (λ _ _. tt)
-    returns)

@@ -9,8 +9,7 @@ use Rattle.subproblems.specs.declared.Solved1.{Solved1}
 use Rattle.search_error.specs.declared.Fixed.{Fixed}
 use Rattle.search_error.specs.declared.GivenQ1.{GivenQ1}
 use Rattle.family6_answers.specs.FixedAnswer.{q2}
-use Rattle.family6_answers.proofs.q2.Statement.{statement}
-use Rattle.family6_answers.proofs.q2.Tie as tie
+use Rattle.family6_answers.proofs.q2.Goals as goal
 
 met : (g : Fixed) (tolerance : Float) (t : GivenQ1) (r-16 r-34 : Matrix) (theta : Float)
     {r-13 r-14 : Matrix}
@@ -29,20 +28,5 @@ met : (g : Fixed) (tolerance : Float) (t : GivenQ1) (r-16 r-34 : Matrix) (theta 
 unfolding q2
 met g tolerance t r-16 r-34 theta e1 e2 e3 e4 e5 e6 e7 e8 e9 = cc
 
-returns : tie.Need-returns
+pub returns : goal.returns
 returns c = search met
-
-pub q2-spec : {M : Type 1} → statement M
-q2-spec =
-    tie.close
-    (tie.spec
-    (λ _ _. tt)
-    (λ _ _. tt)
-    (λ _ _. tt)
-    (λ _ _. tt)
-    (λ _ _. tt)
-    (λ _ _. tt)
-    (λ _ _. tt)
-    (λ _ _. tt)
-    (λ _ _. tt)
-    returns)
