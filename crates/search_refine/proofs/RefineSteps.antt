@@ -12,11 +12,11 @@ use Rattle.search_definition.specs.Found.{again, leave}
 use Rattle.search_definition.specs.Refine.{half, flat, narrow, negative, Bracket, next, near, narrowed, if_near, if_value, if_next, refine_step}
 
 -- a test `!f(x)` by what f ensures of its result
-pub passed : {r : Bool} (b : Bool) → r ≡ b → not r ≡ false → b ≡ true
-passed {r} b e t = sym e ∙ not-false r t
+pub passed : {r : Bool} (b : Bool) → r ≡ b → r ≡ true → b ≡ true
+passed b e t = sym e ∙ t
 
-pub failed : {r : Bool} (b : Bool) → r ≡ b → not r ≡ true → b ≡ false
-failed {r} b e t = sym e ∙ not-true r t
+pub failed : {r : Bool} (b : Bool) → r ≡ b → r ≡ false → b ≡ false
+failed b e t = sym e ∙ t
 
 -- p is the guess, as a call gave it
 module _ (f : Float → Float) (s : Bracket) {p : Float} (ep : p ≡ next s) where

@@ -2,7 +2,6 @@
 use mathlib.Core.Path.{◌≡◌, ap, ◌∙◌}
 use mathlib.Core.Bool.{Bool, true, false, beq}
 use mathlib.Core.List.{[], ◌∷◌}
-use mathlib.Core.Logic.{⊎_elim}
 use Prim.Native.Nat.{ℕ, ◌+◌, ◌-◌, ◌≤◌, ◌<◌}
 use native.Mathlib.Omega.{arith}
 use borrow.Author.Tests.{eq-eqb, ne_eqb}
@@ -15,6 +14,7 @@ use Rattle.search_refine.proofs.Count.{counted_total, step_leaves, step_quits, s
 use Rattle.search_refine.proofs.RefineSteps.{passed, failed, no_next, no_value, is_near, goes_on, near_left, near_right, far, to_left, to_right}
 use Rattle.search_refine.proofs.refine.refine_bracket.Statement.{statement}
 use Rattle.search_refine.proofs.refine.refine_bracket.Tie as tie
+use Rattle.search_refine.proofs.refine.refine_bracket.Lts.{then-fx-fa+then-side-eq1, then-fx-fa+else-side-eq1, else-fx-fa+then-side-eq2, else-fx-fa+else-side-eq2, then-abs-via-then-abs, then-abs-via-else-abs+then-abs-2}
 
 abbrev invariant-loop : tie.invariant-loop
 invariant-loop fixed i a0 b0 fa0 fb0 a₀ b₀ fa₀ fb₀ side₀ x₀ evals₀ counter₀ a b fa fb side x evals counter =
@@ -40,21 +40,21 @@ abbrev rest : tie.At-loop invariant-loop decreases-loop → Bracket → Counted 
 rest h s = counted (h.loop.evals + 1) (run (refine_step (err h)) reached (60 - (h.loop.counter + 1)) s)
 
 -- the step goes on with the definition's next bracket
-step : (c : tie.Else4 invariant-loop decreases-loop) (d : Bool) →
+step : (c : tie.Else-abs-2 invariant-loop decreases-loop) (d : Bool) →
     let v = c.before.before.before.before.before in
     let z = v.before.before.before.before in
     let h = z.before.before in
-    let y = v.before.error_at.result in
-    beq (negative y) (negative h.loop.fa) ≡ d → rest h (narrowed d z.chord-zero.result y (at h)) ≡ total (refine_bracket (err h) h.before.args.a0 h.before.args.b0 h.before.args.fa0 h.before.args.fb0)
+    let y = v.before.error_at-fx.result in
+    beq (negative y) (negative h.loop.fa) ≡ d → rest h (narrowed d z.chord_zero-next.result y (at h)) ≡ total (refine_bracket (err h) h.before.args.a0 h.before.args.b0 h.before.args.fa0 h.before.args.fb0)
 unfolding next
 step c d t =
     let q = c.before.before.before.before in
     let v = q.before in
     let z = v.before.before.before.before in
     let h = z.before.before in
-    step_goes (refine_step (err h)) reached 60 (at h) h.loop.evals h.loop.counter _ h.loop.invariant.2 (omega arith) (z.chord-zero.result ∷ []) _
-    (goes_on (err h) (at h) z.chord-zero.ensures (passed _ v.before.before.before.is_finite.ensures v.before.before.if1.false) _ v.before.error_at.ensures (passed _ v.is-finite2.ensures q.if2.false) d t
-    (far (at h) _ c.before.before.before.abs.ensures c.before.abs2.ensures c.before.before.if3.false c.if4.false))
+    step_goes (refine_step (err h)) reached 60 (at h) h.loop.evals h.loop.counter _ h.loop.invariant.2 (omega arith) (z.chord_zero-next.result ∷ []) _
+    (goes_on (err h) (at h) z.chord_zero-next.ensures (passed _ v.before.before.before.is_finite.ensures v.before.before.if-not-is_finite.false) _ v.before.error_at-fx.ensures (passed _ v.is_finite-in-loop.ensures q.if-not-is_finite-2.false) d t
+    (far (at h) _ c.before.before.before.abs.ensures c.before.abs-else-abs.ensures c.before.before.if-abs.false c.if-abs-2.false))
 
 loop-again : tie.Need-loop-preserved invariant-loop decreases-loop
 unfolding negative
@@ -62,54 +62,55 @@ loop-again c =
     let v = c.before.before.before.before.before.before in
     let z = v.before.before.before.before in
     let h = z.before.before in
-    let y = v.before.error_at.result in
-    let p = z.chord-zero.result in (
+    let y = v.before.error_at-fx.result in
+    let p = z.chord_zero-next.result in (
       omega arith,
       omega arith,
-      ⊎_elim
-          (λ w. ap (rest h) (to_left (at h) p y true (eq-eqb _ _ w.1.taken) w.2 w.3 w.4 w.5 w.6) ∙ step c.before true w.0.taken)
-          (⊎_elim
-          (λ w. ap (rest h) (to_left (at h) p y false (ne_eqb _ _ w.1.left) w.2 w.3 w.4 w.5 w.6) ∙ step c.before true w.0.taken)
-          (⊎_elim
-          (λ w. ap (rest h) (to_right (at h) p y true (eq-eqb _ _ w.1.taken) w.2 w.3 w.4 w.5 w.6) ∙ step c.before false w.0.left)
-          (λ w. ap (rest h) (to_right (at h) p y false (ne_eqb _ _ w.1.left) w.2 w.3 w.4 w.5 w.6) ∙ step c.before false w.0.left)))
-          c.if5.branch,
+      elim c.if-fx-fa.branch [
+        | then-fx-fa+then-side-eq1 w ↦ ap (rest h) (to_left (at h) p y true (eq-eqb _ _ w.if-side-eq1.true) w.a-is w.b-is w.fa-is w.fb-is w.side-is) ∙ step c.before true w.if-fx-fa.true
+        | then-fx-fa+else-side-eq1 w ↦ ap (rest h) (to_left (at h) p y false (ne_eqb _ _ w.if-side-eq1.false) w.a-is w.b-is w.fa-is w.fb-is w.side-is) ∙ step c.before true w.if-fx-fa.true
+        | else-fx-fa+then-side-eq2 w ↦ ap (rest h) (to_right (at h) p y true (eq-eqb _ _ w.if-side-eq2.true) w.a-is w.b-is w.fa-is w.fb-is w.side-is) ∙ step c.before false w.if-fx-fa.false
+        | else-fx-fa+else-side-eq2 w ↦ ap (rest h) (to_right (at h) p y false (ne_eqb _ _ w.if-side-eq2.false) w.a-is w.b-is w.fa-is w.fb-is w.side-is) ∙ step c.before false w.if-fx-fa.false
+      ],
     )
 
-returns : tie.Need-returns invariant-loop decreases-loop
+returns : tie.Need-returns-after-loop invariant-loop decreases-loop
 returns c = let h = c.before in steps_end (refine_step (err h)) reached 60 (at h) h.loop.evals h.loop.counter _ h.loop.invariant.2 (omega arith)
 
-returns-2 : tie.Need-returns-2 invariant-loop decreases-loop
+returns-2 : tie.Need-returns-then-not-is_finite invariant-loop decreases-loop
 unfolding next
 returns-2 c =
     let z = c.before.before in
     let h = z.before.before in
     step_quits (refine_step (err h)) reached 60 (at h) h.loop.evals h.loop.counter _ h.loop.invariant.2 (omega arith) h.loop.x
-    (no_next (err h) (at h) z.chord-zero.ensures (failed _ c.before.is_finite.ensures c.if1.true))
+    (no_next (err h) (at h) z.chord_zero-next.ensures (failed _ c.before.is_finite.ensures c.if-not-is_finite.true))
 
-returns-3 : tie.Need-returns-3 invariant-loop decreases-loop
+returns-3 : tie.Need-returns-then-not-is_finite-2 invariant-loop decreases-loop
 unfolding next
 returns-3 c =
     let v = c.before in
     let z = v.before.before.before.before in
     let h = z.before.before in
-    step_leaves (refine_step (err h)) reached 60 (at h) h.loop.evals h.loop.counter _ h.loop.invariant.2 (omega arith) (z.chord-zero.result ∷ []) h.loop.x
-    (no_value (err h) (at h) z.chord-zero.ensures (passed _ v.before.before.before.is_finite.ensures v.before.before.if1.false) _ v.before.error_at.ensures (failed _ v.is-finite2.ensures c.if2.true))
+    step_leaves (refine_step (err h)) reached 60 (at h) h.loop.evals h.loop.counter _ h.loop.invariant.2 (omega arith) (z.chord_zero-next.result ∷ []) h.loop.x
+    (no_value (err h) (at h) z.chord_zero-next.ensures (passed _ v.before.before.before.is_finite.ensures v.before.before.if-not-is_finite.false) _ v.before.error_at-fx.ensures (failed _ v.is_finite-in-loop.ensures c.if-not-is_finite-2.true))
 
-returns-4 : tie.Need-returns-4 invariant-loop decreases-loop
+returns-4 : tie.Need-returns-then-abs invariant-loop decreases-loop
 unfolding next
 returns-4 c =
     let q = c.before.before in
     let v = q.before in
     let z = v.before.before.before.before in
     let h = z.before.before in
-    let y = v.before.error_at.result in
-    step_leaves (refine_step (err h)) reached 60 (at h) h.loop.evals h.loop.counter _ h.loop.invariant.2 (omega arith) (z.chord-zero.result ∷ []) z.chord-zero.result
-    (is_near (err h) (at h) z.chord-zero.ensures (passed _ v.before.before.before.is_finite.ensures v.before.before.if1.false) y v.before.error_at.ensures (passed _ v.is-finite2.ensures q.if2.false)
-    (⊎_elim (λ w. near_left (at h) y c.before.abs.ensures w.taken) (λ w. near_right (at h) y c.before.abs.ensures w.1.ensures w.2.taken) c.if3.branch))
+    let y = v.before.error_at-fx.result in
+    step_leaves (refine_step (err h)) reached 60 (at h) h.loop.evals h.loop.counter _ h.loop.invariant.2 (omega arith) (z.chord_zero-next.result ∷ []) z.chord_zero-next.result
+    (is_near (err h) (at h) z.chord_zero-next.ensures (passed _ v.before.before.before.is_finite.ensures v.before.before.if-not-is_finite.false) y v.before.error_at-fx.ensures (passed _ v.is_finite-in-loop.ensures q.if-not-is_finite-2.false)
+    (elim c.then-abs.branch [
+      | then-abs-via-then-abs w ↦ near_left (at h) y c.before.abs.ensures w.if-abs.true
+      | then-abs-via-else-abs+then-abs-2 w ↦ near_right (at h) y c.before.abs.ensures w.abs-else-abs.ensures w.if-abs-2.true
+    ]))
 
-pub refine-bracket-spec : {M : Type 1} → statement M
-refine-bracket-spec =
+pub refine_bracket_spec : {M : Type 1} → statement M
+refine_bracket_spec =
     tie.close
     (tie.spec
     invariant-loop
