@@ -13,58 +13,58 @@ use Rattle.search_dip.proofs.Dips.{dip_none, dip_tangent, dip_two}
 use Rattle.search_dip.proofs.dip.minimise_dip.Statement.{statement}
 use Rattle.search_dip.proofs.dip.minimise_dip.Tie as tie
 
-few : (c : tie.After-lowest) → c.lowest.result.evals ≤ 18
+few : (c : tie.After-lowest-v) → c.lowest-v.result.evals ≤ 18
 few c =
     let a = c.before.before.before.before.args in
-    omega (arith, lowest_asks (error_at a.fixed a.i) c.before.sign_of.result a.a a.b, ap evals_of c.lowest.ensures)
+    omega (arith, lowest_asks (error_at a.fixed a.i) c.before.sign_of-sign.result a.a a.b, ap evals_of c.lowest-v.ensures)
 
-add-t20 : tie.Need-overflow-add-t20
+add-t20 : tie.Need-overflow_add-h
 add-t20 c = omega (arith, few c, c.before.before.before.before.requires.2)
 
-put-refined-requires : tie.Need-put-refined-requires
+put-refined-requires : tie.Need-put_refined-k-requires
 put-refined-requires c κs = let l = c.before.before.before in let h = l.before.before.before.before.requires in (h.0, omega (arith, h.1), omega (arith, few l, h.2))
 
-put-refined-requires-2 : tie.Need-put-refined-requires-2
+put-refined-requires-2 : tie.Need-put_refined-requires
 unfolding component
 put-refined-requires-2 c κs =
     let k = c.before.before.before.before.before.before in
     let l = k.before.before.before.before in
     let a = l.before.before.before.before.args in
     let h = l.before.before.before.before.requires in
-    let w = refined_few (error_at a.fixed a.i) (grid a.i (crossing 0)) _ _ _ (k.put-refined.ensures (grid a.i (crossing 0)) refl) in
+    let w = refined_few (error_at a.fixed a.i) (grid a.i (crossing 0)) _ _ _ (k.put_refined-k.ensures (grid a.i (crossing 0)) refl) in
     (h.0, omega (arith, w.0, h.1), omega (arith, w.1, few l, h.2))
 
-returns : tie.Need-returns
+returns : tie.Need-returns-then-g
 returns c =
     let t = c.before.before.before.before in
     let k = t.before.before.before.before.before.before.before in
     let l = k.before.before.before.before in
     let a = l.before.before.before.before.args in
     λ o e.
-    dip_two (error_at a.fixed a.i) o (point a.a a.fa) (point a.b a.fb) (state a.qs.now a.cs.now a.f) l.before.sign_of.ensures l.lowest.ensures
-    k.before.before.before.if1.true (k.put-refined.ensures (o before) (e before)) (t.put-refined2.ensures (o after) (e after))
+    dip_two (error_at a.fixed a.i) o (point a.a a.fa) (point a.b a.fb) (state a.qs.now a.cs.now a.f) l.before.sign_of-sign.ensures l.lowest-v.ensures
+    k.before.before.before.if-g.true (k.put_refined-k.ensures (o before) (e before)) (t.put_refined.ensures (o after) (e after))
 
-returns-2 : tie.Need-returns-2
+returns-2 : tie.Need-returns-then-is_finite
 returns-2 c =
     let t = c.before.before.before.before in
     let g = t.before.before.before.before in
     let l = g.before.before in
     let a = l.before.before.before.before.args in
     λ o e.
-    dip_tangent (error_at a.fixed a.i) o (point a.a a.fa) (point a.b a.fb) (state a.qs.now a.cs.now a.f) l.before.sign_of.ensures l.lowest.ensures
-    g.is_finite.ensures g.before.if1.false t.before.before.before.if2.true (t.put-pair.ensures (o only) (e only))
+    dip_tangent (error_at a.fixed a.i) o (point a.a a.fa) (point a.b a.fb) (state a.qs.now a.cs.now a.f) l.before.sign_of-sign.ensures l.lowest-v.ensures
+    g.is_finite.ensures g.before.if-g.false t.before.before.before.if-is_finite.true (t.put_pair.ensures (o only) (e only))
 
-returns-3 : tie.Need-returns-3
+returns-3 : tie.Need-returns
 returns-3 c =
     let g = c.before in
     let l = g.before.before in
     let a = l.before.before.before.before.args in
     λ o e.
-    dip_none (error_at a.fixed a.i) o (point a.a a.fa) (point a.b a.fb) (state a.qs.now a.cs.now a.f) l.before.sign_of.ensures l.lowest.ensures
-    g.is_finite.ensures g.before.if1.false c.if2.false
+    dip_none (error_at a.fixed a.i) o (point a.a a.fa) (point a.b a.fb) (state a.qs.now a.cs.now a.f) l.before.sign_of-sign.ensures l.lowest-v.ensures
+    g.is_finite.ensures g.before.if-g.false c.if-is_finite.false
 
-pub minimise-dip-spec : {M : Type 1} → statement M
-minimise-dip-spec =
+pub minimise_dip_spec : {M : Type 1} → statement M
+minimise_dip_spec =
     tie.close
     (tie.spec
     (λ _ _. tt)
