@@ -15,8 +15,7 @@ use Rattle.family6_answers.specs.FixedAnswer.{answer_at}
 use Rattle.family6_answers.specs.Pairs.{pair, Answered}
 use Rattle.family6.specs.TwoParallel.{answer_of}
 use Rattle.family6.proofs.SameAnswer.{answer_at_same}
-use Rattle.family6.proofs.answer_of.Statement.{statement}
-use Rattle.family6.proofs.answer_of.Tie as tie
+use Rattle.family6.proofs.answer_of.Goals as goal
 
 module _ (r_06 : Matrix) (p_0t : Vector3) (kin : Kinematics) (q1 : Float) (i : ℕ) {g : Fixed} (e : g ≡ fixed kin r_06 p_0t) where
   answered : i < t64_count kin r_06 p_0t q1 → Answered g q1 i
@@ -28,11 +27,8 @@ module _ (r_06 : Matrix) (p_0t : Vector3) (kin : Kinematics) (q1 : Float) (i : �
       ∙ ap (λ (x : Fixed). answer_at x tolerance (pair q1 i)) e
       ∙ ap (λ (h : SearchPair → Answer). h (pair q1 i)) (answer_at_same r_06 p_0t kin tolerance)
 
-answer-at-requires : tie.Need-answer-at-requires
-answer-at-requires c κs = search answered
+pub answer_at-requires : goal.answer_at-requires
+answer_at-requires c = search answered
 
-returns : tie.Need-returns
+pub returns : goal.returns
 returns c = search met
-
-pub answer-of-spec : {M : Type 1} → statement M
-answer-of-spec = tie.close (tie.spec (λ _ _. tt) answer-at-requires returns)

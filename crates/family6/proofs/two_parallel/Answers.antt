@@ -17,8 +17,7 @@ use Rattle.search.specs.Searched.{Searched, search_within}
 use Rattle.family6.specs.TwoParallel.{evaluations}
 use Rattle.family6.specs.Kept.{Kept}
 use Rattle.family6.proofs.Held.{pairs_fit, all_usable, search_held, search_evals}
-use Rattle.family6.proofs.two_parallel.Statement.{statement}
-use Rattle.family6.proofs.two_parallel.Tie as tie
+use Rattle.family6.proofs.two_parallel.Goals as goal
 
 module _ (r_06 : Matrix) (p_0t : Vector3) (kin : Kinematics) (n : ℕ) {g : Fixed} {q q' : List Float} {c c' : List ℕ} {r : SearchCounts}
     (lq : length q ≡ 17600)
@@ -40,8 +39,5 @@ module _ (r_06 : Matrix) (p_0t : Vector3) (kin : Kinematics) (n : ℕ) {g : Fixe
         cs_long = ap length w.components ∙ length-sets c 0 (map component_of (search_within (error_at g) n).found) ∙ lc;
       }
 
-returns : tie.Need-returns
+pub returns : goal.returns
 returns c = search kept
-
-pub two-parallel-spec : {M : Type 1} → statement M
-two-parallel-spec = tie.close (tie.spec (λ _ _. tt) (λ c κs. search rules) (λ c. search rules) (λ c. search rules) returns)
