@@ -10,33 +10,33 @@ use Rattle.search_edge.proofs.edge.scan_edge.Statement.{statement}
 use Rattle.search_edge.proofs.edge.scan_edge.Tie as tie
 
 -- 16 evaluations, and then 7
-few : (b : tie.After-bisect) → b.bisect.result.evals ≡ b.before.before.before.args.g.evals + 16
+few : (b : tie.After-bisect-e) → b.bisect-e.result.evals ≡ b.before.before.before.args.g.evals + 16
 few b =
     let a = b.before.before.before.args in
-    ap evals_of b.bisect.ensures ∙ ap (λ n. a.g.evals + n) (bisect_asks (error_at a.fixed a.i) 16 (gap a.g))
+    ap evals_of b.bisect-e.ensures ∙ ap (λ n. a.g.evals + n) (bisect_asks (error_at a.fixed a.i) 16 (gap a.g))
 
 -- the state at the call, from the one after the row
-abbrev entry : tie.After-edge-row → tie.Start
+abbrev entry : tie.After-edge_row-r → tie.Start
 entry w = w.before.before.before.before.before.before
 
-few_more : (w : tie.After-edge-row) → w.edge_row.result.evals ≡ (entry w).args.g.evals + 23
+few_more : (w : tie.After-edge_row-r) → w.edge_row-r.result.evals ≡ (entry w).args.g.evals + 23
 few_more w =
     let b = w.before.before.before in
     let a = b.before.before.before.args in
-    omega (arith, few b, ap evals_of w.edge_row.ensures.1, edge_points_asks (error_at a.fixed a.i) (gap b.bisect.result).inside (gap a.g).inside)
+    omega (arith, few b, ap evals_of w.edge_row-r.ensures.1, edge_points_asks (error_at a.fixed a.i) (gap b.bisect-e.result).inside (gap a.g).inside)
 
-edge-row-requires : tie.Need-edge-row-requires
+edge-row-requires : tie.Need-edge_row-r-requires
 edge-row-requires c κs =
     let b = c.before.before in
     let h = b.before.before.before.requires in
     (h.0, omega (arith, few b, h.2), search rules, search rules)
 
-scan-samples-requires : tie.Need-scan-samples-requires
+scan-samples-requires : tie.Need-scan_samples-requires
 scan-samples-requires c κs =
     let w = c.before.before.before.before.before.before.before.before.before.before.before.before.before.before.before in
-    omega (arith, few_more w, w.edge_row.ensures.0, (entry w).requires)
+    omega (arith, few_more w, w.edge_row-r.ensures.0, (entry w).requires)
 
-returns : tie.Need-returns
+returns : tie.Need-returns-then-x-lo
 returns c =
     let v = c.before.before.before.before in
     let y = v.before.before.before.before.before.before in
@@ -46,15 +46,15 @@ returns c =
     let b = w.before.before.before in
     let a = b.before.before.before.args in
     λ o d.
-    edge_reversed (error_at a.fixed a.i) o (gap a.g) (held a.qs.now a.cs.now a.pairs a.g.evals) _ w.edge_row.result.len b.bisect.ensures w.edge_row.ensures.1 (v.scan_samples.ensures o d) t.if1.true
-    (reversed_row _ _ w.edge_row.result.len (λ j h. ap₂ point (x.reverse-row.ensures j h) (y.reverse-row2.ensures j h)))
+    edge_reversed (error_at a.fixed a.i) o (gap a.g) (held a.qs.now a.cs.now a.pairs a.g.evals) _ w.edge_row-r.result.len b.bisect-e.ensures w.edge_row-r.ensures.1 (v.scan_samples.ensures o d) t.if-x-lo.true
+    (reversed_row _ _ w.edge_row-r.result.len (λ j h. ap₂ point (x.reverse_row.ensures j h) (y.reverse_row-then-x-lo.ensures j h)))
 
-scan-samples-requires-2 : tie.Need-scan-samples-requires-2
+scan-samples-requires-2 : tie.Need-scan_samples-requires-2
 scan-samples-requires-2 c κs =
     let w = c.before.before.before.before.before.before.before in
-    omega (arith, few_more w, w.edge_row.ensures.0, (entry w).requires)
+    omega (arith, few_more w, w.edge_row-r.ensures.0, (entry w).requires)
 
-returns-2 : tie.Need-returns-2
+returns-2 : tie.Need-returns
 returns-2 c =
     let v = c.before.before.before.before in
     let t = v.before.before.before.before.before in
@@ -62,10 +62,10 @@ returns-2 c =
     let b = w.before.before.before in
     let a = b.before.before.before.args in
     λ o d.
-    edge_straight (error_at a.fixed a.i) o (gap a.g) (held a.qs.now a.cs.now a.pairs a.g.evals) _ w.edge_row.result.len b.bisect.ensures w.edge_row.ensures.1 (v.scan-samples2.ensures o d) t.if1.false refl
+    edge_straight (error_at a.fixed a.i) o (gap a.g) (held a.qs.now a.cs.now a.pairs a.g.evals) _ w.edge_row-r.result.len b.bisect-e.ensures w.edge_row-r.ensures.1 (v.scan_samples-2.ensures o d) t.if-x-lo.false refl
 
-pub scan-edge-spec : {M : Type 1} → statement M
-scan-edge-spec =
+pub scan_edge_spec : {M : Type 1} → statement M
+scan_edge_spec =
     tie.close
     (tie.spec
     (λ c κs. search rules)
