@@ -2,12 +2,8 @@
 use mathlib.Core.Path.{refl}
 use Rattle.search_definition.specs.Refine.{negative}
 use Rattle.search_definition.specs.Scan.{alike, crosses}
-use Rattle.search_scan.proofs.scan.crosses.Statement.{statement}
-use Rattle.search_scan.proofs.scan.crosses.Tie as tie
+use Rattle.search_scan.proofs.scan.crosses.Goals as goal
 
-returns : tie.Need-returns
+pub returns : goal.returns
 unfolding crosses alike negative
 returns c = refl
-
-pub crosses-spec : {M : Type 1} → statement M
-crosses-spec = tie.close (tie.spec returns)
