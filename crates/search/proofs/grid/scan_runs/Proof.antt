@@ -15,11 +15,11 @@ use Rattle.search.proofs.GridSteps.{runs_from, run_grows, run_ends, run_last, fe
 use Rattle.search.proofs.grid.scan_runs.Statement.{statement}
 use Rattle.search.proofs.grid.scan_runs.Tie as tie
 
-abbrev invariant-loop : tie.invariant-loop
+abbrev invariant-loop : tie.invariant-loop-m
 invariant-loop fixed i xs ys n qs cs g s m₀ m =
     (s + m ≤ n + 1) × (runs (error_at fixed i) i (row xs ys) (n + 1 - s) s 0 ≡ runs_from (error_at fixed i) i (row xs ys) n s m)
 
-abbrev decreases-loop : tie.decreases-loop
+abbrev decreases-loop : tie.decreases-loop-m
 decreases-loop fixed i xs ys n qs cs g s m₀ m = n + 1 - (s + m)
 
 abbrev invariant-grid : tie.invariant-grid
@@ -39,19 +39,19 @@ grid-holds c =
     let z : a.n + 1 - 0 ≡ a.n + 1 = omega arith in
     (omega arith, refl, refl, ap (λ (k : ℕ). afterwards (state a.qs.now a.cs.now a.f) (runs (error_at a.fixed a.i) a.i (row a.xs.now a.ys.now) k 0 0)) z)
 
-loop-holds : tie.Need-loop-init invariant-loop decreases-loop invariant-grid decreases-grid
+loop-holds : tie.Need-loop-m-init invariant-loop decreases-loop invariant-grid decreases-grid
 loop-holds c =
     let a = c.before.before.before.before.before.args in
     let s = c.grid.s in
     (omega (arith, c.grid.invariant.0), ap (λ (k : ℕ). runs (error_at a.fixed a.i) a.i (row a.xs.now a.ys.now) (a.n + 1 - k) s 0) (sym (add-zero s)))
 
-loop-again : tie.Need-loop-preserved invariant-loop decreases-loop invariant-grid decreases-grid
+loop-again : tie.Need-loop-m-preserved invariant-loop decreases-loop invariant-grid decreases-grid
 loop-again c =
     let t = c.before.before.before in
     let l = t.before in
     let g = l.before in
     let a = g.before.before.before.before.before.args in
-    (omega arith, run_grows (error_at a.fixed a.i) a.i (row a.xs.now a.ys.now) a.n g.grid.s l.loop.m t.loop-test.false (passed _ c.before.is_finite.ensures c.if1.false) l.loop.invariant.1)
+    (omega arith, run_grows (error_at a.fixed a.i) a.i (row a.xs.now a.ys.now) a.n g.grid.s l.loop-m.m t.if-n-s.false (passed _ c.before.is_finite.ensures c.if-not-is_finite.false) l.loop-m.invariant.1)
 
 -- the place and the count stay small
 small : (g : At) → let a = g.before.before.before.before.before.args in (g.grid.g.pairs ≤ a.f.pairs + 11 * a.n) × (g.grid.g.evals ≤ a.f.evals + 782 * a.n)
@@ -59,11 +59,11 @@ small g =
     let a = g.before.before.before.before.before.args in
     few_runs (error_at a.fixed a.i) a.i (row a.xs.now a.ys.now) a.n (state a.qs.now a.cs.now a.f) (state g.grid.qs g.grid.cs g.grid.g) _ g.grid.invariant.3
 
-scan-samples-requires : tie.Need-scan-samples-requires invariant-loop decreases-loop invariant-grid decreases-grid
+scan-samples-requires : tie.Need-scan_samples-g-requires invariant-loop decreases-loop invariant-grid decreases-grid
 scan-samples-requires c κs =
     let t = c.before.before.before.before.before in
     let g = t.before.before in
-    omega (arith, small g, t.loop-test.false, g.before.before.before.before.before.requires)
+    omega (arith, small g, t.if-n-s.false, g.before.before.before.before.before.requires)
 
 grid-again : tie.Need-grid-preserved invariant-loop decreases-loop invariant-grid decreases-grid
 unfolding component
@@ -78,27 +78,27 @@ grid-again c =
     let P = row a.xs.now a.ys.now in
     let S = state g.grid.qs g.grid.cs g.grid.g in (
       omega arith,
-      v.scan_samples.auto.1.1.1.1.1.1.0 ∙ g.grid.invariant.1,
-      v.scan_samples.auto.1.1.1.1.1.1.1.0 ∙ g.grid.invariant.2,
-      after_two S _ _ (v.scan_samples.ensures (grid a.i) (λ p. refl)) refl
-          ∙ sym (ap (afterwards S) (run_ends f a.i P a.n g.grid.s l.loop.m t.loop-test.false (failed _ e.before.is_finite.ensures e.if1.true) l.loop.invariant.1))
+      v.scan_samples-g.auto.qs ∙ g.grid.invariant.1,
+      v.scan_samples-g.auto.cs ∙ g.grid.invariant.2,
+      after_two S _ _ (v.scan_samples-g.ensures (grid a.i) (λ p. refl)) refl
+          ∙ sym (ap (afterwards S) (run_ends f a.i P a.n g.grid.s l.loop-m.m t.if-n-s.false (failed _ e.before.is_finite.ensures e.if-not-is_finite.true) l.loop-m.invariant.1))
           ∙ g.grid.invariant.3,
     )
 
-scan-samples-requires-2 : tie.Need-scan-samples-requires-2 invariant-loop decreases-loop invariant-grid decreases-grid
+scan-samples-requires-2 : tie.Need-scan_samples-requires invariant-loop decreases-loop invariant-grid decreases-grid
 scan-samples-requires-2 c κs =
     let g = c.before.before.before.before in
     omega (arith, small g, g.grid.invariant.0, g.before.before.before.before.before.requires)
 
-same_length : tie.Need-same-length invariant-loop decreases-loop invariant-grid decreases-grid
+same_length : tie.Need-shape_of-qs invariant-loop decreases-loop invariant-grid decreases-grid
 same_length c =
     let v = c.before.before.before.before in
-    v.scan-samples2.auto.1.1.1.1.1.1.0 ∙ v.before.before.before.before.before.grid.invariant.1
+    v.scan_samples.auto.qs ∙ v.before.before.before.before.before.grid.invariant.1
 
-same-length-2 : tie.Need-same-length-2 invariant-loop decreases-loop invariant-grid decreases-grid
+same-length-2 : tie.Need-shape_of-cs invariant-loop decreases-loop invariant-grid decreases-grid
 same-length-2 c =
     let v = c.before.before.before.before in
-    v.scan-samples2.auto.1.1.1.1.1.1.1.0 ∙ v.before.before.before.before.before.grid.invariant.2
+    v.scan_samples.auto.cs ∙ v.before.before.before.before.before.grid.invariant.2
 
 returns : tie.Need-returns invariant-loop decreases-loop invariant-grid decreases-grid
 unfolding component
@@ -109,12 +109,12 @@ returns c =
     let g = l.before in
     let a = g.before.before.before.before.before.args in
     let S = state g.grid.qs g.grid.cs g.grid.g in
-    v.scan-samples2.ensures (grid a.i) (λ p. refl)
-    ∙ sym (ap (afterwards S) (run_last (error_at a.fixed a.i) a.i (row a.xs.now a.ys.now) a.n g.grid.s l.loop.m t.loop-test.true l.loop.invariant.0 l.loop.invariant.1))
+    v.scan_samples.ensures (grid a.i) (λ p. refl)
+    ∙ sym (ap (afterwards S) (run_last (error_at a.fixed a.i) a.i (row a.xs.now a.ys.now) a.n g.grid.s l.loop-m.m t.if-n-s.true l.loop-m.invariant.0 l.loop-m.invariant.1))
     ∙ g.grid.invariant.3
 
-pub scan-runs-spec : {M : Type 1} → statement M
-scan-runs-spec =
+pub scan_runs_spec : {M : Type 1} → statement M
+scan_runs_spec =
     tie.close
     (tie.spec
     invariant-loop

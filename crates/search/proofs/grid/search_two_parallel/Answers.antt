@@ -4,16 +4,11 @@ use borrow.Author.Rules.{rules}
 use Rattle.search_error.specs.Fixed.{error_at}
 use Rattle.search_error.proofs.SameError.{error_at_same}
 use Rattle.search.proofs.Listed.{same_error}
-use Rattle.search.proofs.grid.search_two_parallel.Statement.{statement}
-use Rattle.search.proofs.grid.search_two_parallel.Tie as tie
+use Rattle.search.proofs.grid.search_two_parallel.Goals as goal
 
-returns : tie.Need-returns
+pub returns : goal.returns
 returns c =
     let v = c.before.before.before.before in
     let g = v.before.before.before in
     let a = g.before.before.before.args in
     same_error a.n a.qs.now a.cs.now (ap error_at g.new.ensures ∙ error_at_same a.kin a.r_06 a.p_0t) v.search_1d_bracketed.ensures
-
-pub search-two-parallel-spec : {M : Type 1} → statement M
-search-two-parallel-spec =
-    tie.close (tie.spec (λ _ _. tt) (λ _ _. tt) (λ c. search rules) (λ c. search rules) returns)
