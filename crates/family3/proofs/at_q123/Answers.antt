@@ -14,8 +14,7 @@ use Rattle.answers.proofs.Laws.{by_name}
 use Rattle.family3.specs.Spherical.{at_q123}
 use Rattle.families_wrist.specs.Wrist.{r_36, wrist}
 use Rattle.families_shared.specs.declared.Units.{Units}
-use Rattle.family3.proofs.at_q123.Statement.{statement}
-use Rattle.family3.proofs.at_q123.Tie as tie
+use Rattle.family3.proofs.at_q123.Goals as goal
 
 met : (r_06 : Matrix) (kin : Kinematics) (tolerance : Float) (q123 : Triple)
     {r-10 r-32 r-21 r : Matrix}
@@ -31,37 +30,24 @@ met : (r_06 : Matrix) (kin : Kinematics) (tolerance : Float) (q123 : Triple)
 unfolding at_q123 r_36
 met r_06 kin tolerance q123 e1 e2 e3 e4 w = by_name (cc) w
 
-back-requires : tie.Need-back-requires
-back-requires c κs = ap (λ (u : Units). u.h3) c.before.before.requires
+pub back-r_32-requires : goal.back-r_32-requires
+back-r_32-requires c = ap (λ (u : Units). u.h3) c.before.before.requires
 
-back-requires-2 : tie.Need-back-requires-2
-back-requires-2 c κs = ap (λ (u : Units). u.h2) c.before.before.before.requires
+pub back-r_21-requires : goal.back-r_21-requires
+back-r_21-requires c = ap (λ (u : Units). u.h2) c.before.before.before.requires
 
-back-requires-3 : tie.Need-back-requires-3
-back-requires-3 c κs = ap (λ (u : Units). u.h1) c.before.before.before.before.requires
+pub back-r_10-requires : goal.back-r_10-requires
+back-r_10-requires c = ap (λ (u : Units). u.h1) c.before.before.before.before.requires
 
-wrist-requires : tie.Need-wrist-requires
-wrist-requires c κs = c.before.before.before.before.before.before.before.before.requires
+pub wrist-requires : goal.wrist-requires
+wrist-requires c = c.before.before.before.before.before.before.before.before.requires
 
-returns : tie.Need-returns
+pub returns : goal.returns
 returns c =
     let at-wrist = c.before.before.before.before in
     let at-product = at-wrist.before.before.before in
     let at-back3 = at-product.before in
     let at-back2 = at-back3.before in
     let at_back = at-back2.before in
-    met _ _ _ _ at_back.back.ensures at-back2.back2.ensures at-back3.back3.ensures at-product.product4.ensures
+    met _ _ _ _ at_back.back-r_32.ensures at-back2.back-r_21.ensures at-back3.back-r_10.ensures at-product.product4-r_36.ensures
     at-wrist.wrist.ensures
-
-pub at-q123-spec : {M : Type 1} → statement M
-at-q123-spec =
-    tie.close
-    (tie.spec
-    back-requires
-    back-requires-2
-    back-requires-3
-    (λ _ _. tt)
-    wrist-requires
-    (λ c. search rules)
-    (λ c. search rules)
-    returns)
