@@ -17,8 +17,7 @@ use Rattle.families.specs.Spherical.{spherical}
 use Rattle.families.specs.ThreeParallelTwoIntersecting.{three_parallel_two_intersecting}
 use Rattle.families.specs.ThreeParallel.{three_parallel}
 use Rattle.full_list.specs.Full.{without_search, tolerance}
-use Rattle.full_list.proofs.without_search.Statement.{statement}
-use Rattle.full_list.proofs.without_search.Tie as tie
+use Rattle.full_list.proofs.without_search.Goals as goal
 
 -- the family's list is written
 abbrev Done : ℕ → List Float → List Float → List Float → List ℕ → List Float → List ℕ → ℕ → Type 0
@@ -48,45 +47,17 @@ module _ (family : ℕ) (arm pose : List Float) {kin : Kinematics} {r : Matrix} 
   unfolding without_search
   fifth h1 h2 h3 h4 w = rw (ne_eqb family 1 h1, ne_eqb family 2 h2, ne_eqb family 3 h3, ne_eqb family 4 h4) (rw (e-kin, e-r, e-p) at w)
 
-returns : tie.Need-returns
-returns c = search first
+pub returns-in-1 : goal.returns-in-1
+returns-in-1 c = search first
 
-returns-2 : tie.Need-returns-2
-returns-2 c = search second
+pub returns-in-2 : goal.returns-in-2
+returns-in-2 c = search second
 
-returns-3 : tie.Need-returns-3
-returns-3 c = search third
+pub returns-in-3 : goal.returns-in-3
+returns-in-3 c = search third
 
-returns-4 : tie.Need-returns-4
-returns-4 c = search fourth
+pub returns-in-4 : goal.returns-in-4
+returns-in-4 c = search fourth
 
-returns-5 : tie.Need-returns-5
-returns-5 c = search fifth
-
-pub without-search-spec : {M : Type 1} → statement M
-without-search-spec =
-    tie.close
-    (tie.spec
-    (λ c κs. search rules)
-    (λ c κs. search rules)
-    (λ c κs. search rules)
-    (λ _ _. tt)
-    (λ _ _. tt)
-    (λ _ _. tt)
-    (λ _ _. tt)
-    (λ _ _. tt)
-    (λ c. search rules)
-    (λ c. search rules)
-    returns
-    (λ c. search rules)
-    (λ c. search rules)
-    returns-2
-    (λ c. search rules)
-    (λ c. search rules)
-    returns-3
-    (λ c. search rules)
-    (λ c. search rules)
-    returns-4
-    (λ c. search rules)
-    (λ c. search rules)
-    returns-5)
+pub returns-in_default : goal.returns-in_default
+returns-in_default c = search fifth

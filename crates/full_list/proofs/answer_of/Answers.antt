@@ -14,8 +14,7 @@ use Rattle.search_error.specs.Error.{t64_count}
 use Rattle.family6_answers.specs.Pairs.{pair}
 use Rattle.family6.specs.TwoParallel.{answer_of}
 use Rattle.full_list.specs.Full.{tolerance}
-use Rattle.full_list.proofs.answer_of.Statement.{statement}
-use Rattle.full_list.proofs.answer_of.Tie as tie
+use Rattle.full_list.proofs.answer_of.Goals as goal
 
 module _ (arm pose : List Float) (q1 : Float) (i : ℕ) {kin : Kinematics} {r : Matrix} {p : Vector3} {j : ℕ}
     (e-kin : kin ≡ from_numbers arm)
@@ -28,11 +27,8 @@ module _ (arm pose : List Float) (q1 : Float) (i : ℕ) {kin : Kinematics} {r : 
   met : {q : Answer} → q ≡ answer_of r p kin tolerance (pair q1 j) → q ≡ answer_of (pose_rotation pose) (pose_place pose) (from_numbers arm) tolerance (pair q1 i)
   met e-q = rw (e-kin, e-r, e-p, e-j) at e-q
 
-answer-of-requires : tie.Need-answer-of-requires
-answer-of-requires c κs = search usable
+pub answer_of-requires : goal.answer_of-requires
+answer_of-requires c = search usable
 
-returns : tie.Need-returns
+pub returns : goal.returns
 returns c = search met
-
-pub answer-of-spec : {M : Type 1} → statement M
-answer-of-spec = tie.close (tie.spec (λ c κs. search rules) (λ c κs. search rules) (λ c κs. search rules) (λ c κs. search rules) answer-of-requires returns)

@@ -16,8 +16,7 @@ use Rattle.family6.specs.Kept.{Kept}
 use Rattle.full_list.specs.Full.{of_numbers}
 use Rattle.full_list.specs.Listed.{Keeps}
 use Rattle.full_list.proofs.Laws.{kept_pairs}
-use Rattle.full_list.proofs.search.Statement.{statement}
-use Rattle.full_list.proofs.search.Tie as tie
+use Rattle.full_list.proofs.search.Goals as goal
 
 met : (arm pose : List Float) (n : ℕ) {kin : Kinematics} {r : Matrix} {p : Vector3} {s : SearchCounts} {qs : List Float} {cs : List ℕ}
     → length arm ≡ 39
@@ -29,8 +28,5 @@ met : (arm pose : List Float) (n : ℕ) {kin : Kinematics} {r : Matrix} {p : Vec
     → Keeps (of_numbers 6 n arm pose) (record { answers = s.pairs; evals = s.evals; searched = true }) arm pose qs cs
 met arm pose n arm-39 pose-12 e-kin e-r e-p k = kept_pairs arm pose n arm-39 pose-12 (rw (e-kin, e-r, e-p) at k)
 
-returns : tie.Need-returns
+pub returns : goal.returns
 returns c = search met
-
-pub search-spec : {M : Type 1} → statement M
-search-spec = tie.close (tie.spec (λ c κs. search rules) (λ c κs. search rules) (λ c κs. search rules) (λ c κs. search rules) (λ c. search rules) (λ c. search rules) returns)
