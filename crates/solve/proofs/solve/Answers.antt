@@ -26,8 +26,7 @@ use Rattle.full_list.proofs.Laws.{without_search_few, closed, eight_room}
 use Rattle.solve.specs.Solve.{refused, full, answers, solve}
 use Rattle.solve.specs.declared.Solved.{Solved}
 use Rattle.solve.proofs.Accepted.{Accepted, accepted, accepted_numbers, accepted_limits}
-use Rattle.solve.proofs.solve.Statement.{statement}
-use Rattle.solve.proofs.solve.Tie as tie
+use Rattle.solve.proofs.solve.Goals as goal
 
 module _ (family n : ℕ) (arm pose limits : List Float) {first : ℕ} (e : first ≡ refused family n arm pose limits) where
   module _ (angles : List Float) (flags : List ℕ) (h : first ≡ 0 → ⊥) where
@@ -163,61 +162,29 @@ module _ (family n : ℕ) (arm pose limits : List Float) {first : ℕ} (e : firs
           flags-eight : b ≡ flagged (answers family n arm pose limits) angles flags
           flags-eight = (wrote angles flags eight-first no-search-made).all_flags
 
-returns : tie.Need-returns
-returns c = (search result-refused, (search angles-refused, search flags-refused))
+pub returns-then-refused-ne0 : goal.returns-then-refused-ne0
+returns-then-refused-ne0 c = record { result = search result-refused; angles = search angles-refused; flags = search flags-refused }
 
-search-requires : tie.Need-search-requires
-search-requires c κs = (search arm_fits, search pose_fits, search rules, search rules)
+pub search-list-requires : goal.search-list-requires
+search-list-requires c = (search arm_fits, search pose_fits, search rules, search rules)
 
-write-allowed-requires : tie.Need-write-allowed-requires
-write-allowed-requires c κs = (search rules, search limits-accepted)
+pub write_allowed-count-requires : goal.write_allowed-count-requires
+write_allowed-count-requires c = (search rules, search limits-accepted)
 
-returns-2 : tie.Need-returns-2
-returns-2 c = (search result-searched, (search angles-searched, search flags-searched))
+pub returns-then-family-eq6 : goal.returns-then-family-eq6
+returns-then-family-eq6 c = record { result = search result-searched; angles = search angles-searched; flags = search flags-searched }
 
-without-search-requires : tie.Need-without-search-requires
-without-search-requires c κs = (search family_low, search family_high, search arm_fits, search pose_fits)
+pub without_search-count-requires : goal.without_search-count-requires
+without_search-count-requires c = (search family_low, search family_high, search arm_fits, search pose_fits)
 
-returns-3 : tie.Need-returns-3
-returns-3 c = (search result-direct, (search angles-direct, search flags-direct))
+pub returns-then-limits-eq0 : goal.returns-then-limits-eq0
+returns-then-limits-eq0 c = record { result = search result-direct; angles = search angles-direct; flags = search flags-direct }
 
-without-search-requires-2 : tie.Need-without-search-requires-2
-without-search-requires-2 c κs = (search family_low, search family_high, search arm_fits, search pose_fits)
+pub without_search-k-requires : goal.without_search-k-requires
+without_search-k-requires c = (search family_low, search family_high, search arm_fits, search pose_fits)
 
-write-allowed-requires-2 : tie.Need-write-allowed-requires-2
-write-allowed-requires-2 c κs = (search not-many, search in-eight, search in_bytes, search limits-accepted)
+pub write_allowed-count-requires-2 : goal.write_allowed-count-requires-2
+write_allowed-count-requires-2 c = (search not-many, search in-eight, search in_bytes, search limits-accepted)
 
-returns-4 : tie.Need-returns-4
-returns-4 c = (search result-eight, (search angles-eight, search flags-eight))
-
-pub solve-spec : {M : Type 1} → statement M
-solve-spec =
-    tie.close
-    (tie.spec
-    (λ c κs. search rules)
-    returns
-    (λ c. search rules)
-    (λ c. search rules)
-    search-requires
-    (λ c. search rules)
-    (λ c. search rules)
-    write-allowed-requires
-    (λ c κs. search rules)
-    (λ c. search rules)
-    (λ c. search rules)
-    returns-2
-    without-search-requires
-    (λ c κs. search rules)
-    (λ c. search rules)
-    (λ c. search rules)
-    returns-3
-    (λ c. search rules)
-    (λ c. search rules)
-    without-search-requires-2
-    (λ c. search rules)
-    (λ c. search rules)
-    write-allowed-requires-2
-    (λ c κs. search rules)
-    (λ c. search rules)
-    (λ c. search rules)
-    returns-4)
+pub returns : goal.returns
+returns c = record { result = search result-eight; angles = search angles-eight; flags = search flags-eight }
