@@ -1,14 +1,14 @@
 -- The calls by which the program came to where it stands.
-use Prim.Native.Nat.{ℕ, ◌+◌, ◌-◌, ◌<◌, ◌≤◌, ◌^◌}
-use mathlib.Core.Path.{◌≡◌, refl, sym, ap, ◌∙◌}
+use Prim.Native.Nat.{ℕ, ◌+◌, ◌-◌, ◌≤◌, ◌^◌}
+use mathlib.Core.Path.{◌≡◌, refl, sym, ◌∙◌}
 use mathlib.Core.Bool.{false}
 use mathlib.Core.List.{List, [], ◌∷◌, ◌++◌}
 use native.Mathlib.Omega.{arith}
 use lib.Ieee.{Float}
-use lib.ListN.{length, take, drop, length-append, length-take, length-drop}
-use Rattle.stream.specs.Standing.{Standing, start, next, go_on}
+use lib.ListN.{length, drop, length-append, length-take, length-drop}
+use Rattle.stream.specs.Standing.{start}
 use Rattle.stream.specs.Calls.{Call, after, Fitting, Served}
-use Rattle.stream.specs.Progress.{standing, Sound, Ready, Went, Asked, Turned}
+use Rattle.stream.specs.Progress.{standing, Sound, Ready, Asked, Turned}
 use Rattle.stream.specs.declared.progress.Ask.{Ask}
 use Rattle.stream.specs.declared.progress.Ask.TheVariants.{Stop}
 use Rattle.stream.specs.declared.progress.Progress.{Progress}

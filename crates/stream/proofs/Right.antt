@@ -1,17 +1,17 @@
 -- Whatever calls the system answers and however, what is written is a beginning of the output, and at the end the whole of it.
-use Prim.Native.Nat.{ℕ, zero, suc, ◌+◌, ◌≤◌, ◌<◌, min}
-use mathlib.Core.Path.{◌≡◌, refl, sym, ap, ◌∙◌}
+use Prim.Native.Nat.{ℕ, ◌+◌, ◌≤◌, ◌<◌}
+use mathlib.Core.Path.{◌≡◌, refl, sym, ◌∙◌}
 use mathlib.Core.Bool.{Bool, true, false, cond, false≢true}
 use mathlib.Core.List.{List, [], ◌∷◌, ◌++◌, append_assoc, append-nil}
 use native.Mathlib.Omega.{arith}
-use borrow.Author.Tests.{eqb-true, eqb-false, eq-eqb, ne_eqb}
-use lib.Dec.{eqb, ltb}
+use borrow.Author.Tests.{eqb-true, eqb-false, ne_eqb}
+use lib.Dec.{eqb}
 use lib.Ieee.{Float}
 use lib.ListN.{length, take, drop, length-append, length-take, take-append-drop}
 use lib.Seq.{take-nil}
 use Rattle.lines.specs.Lines.{lines}
 use Rattle.stream.specs.Output.{blocks, printed, output}
-use Rattle.stream.specs.Standing.{Standing, start, broken, delivered, full, received, closed, some, count, after_write, after_read, go_on}
+use Rattle.stream.specs.Standing.{Standing, start, broken, delivered, full, received, closed, count, after_write, after_read, go_on}
 use Rattle.stream.specs.Calls.{Call, after, reads, writes, all_read, all_written, Fitting, Right}
 use Rattle.stream.specs.declared.progress.Heard.{Heard}
 use Rattle.stream.specs.declared.progress.Heard.TheVariants.{Bytes, Failed}

@@ -1,22 +1,17 @@
 -- What the program's numbers, its block, its limits and its buffer stand for after each step.
-use Prim.Native.Nat.{ℕ, zero, suc, ◌+◌, ◌-◌, ◌<◌, ◌≤◌, ◌^◌, min}
+use Prim.Native.Nat.{ℕ, zero, suc, ◌+◌, ◌-◌, ◌<◌, ◌≤◌}
 use mathlib.Core.Path.{◌≡◌, refl, sym, ap, ◌∙◌}
-use mathlib.Core.Bool.{Bool, true, false, ◌||◌, cond, true≢false}
+use mathlib.Core.Bool.{Bool, true, false, ◌||◌, cond}
 use mathlib.Core.List.{List, [], ◌∷◌, ◌++◌}
 use native.Mathlib.Nat.{le_refl}
 use native.Mathlib.Omega.{arith}
 use borrow.Rule.Slice.PartMut.{mid_of, put_mid, same_len_mid, take_put}
-use borrow.Author.Tests.{eq-eqb, ne_eqb, ltb-true}
+use borrow.Author.Tests.{eq-eqb, ne_eqb}
 use lib.Dec.{eqb}
 use lib.Ieee.{Float}
-use lib.IntN.{ℤ, pos, negsuc}
 use lib.ListN.{length, take, drop, length-take, length-drop}
 use lib.Seq.{length-sets, take-add, take_all, take-nil, drop-drop, length-take-le}
-use lib.Signed.{lt_z}
-use mir.Syntax.{w64}
-use mir.Val.{SFits, to_z, of_z}
-use mir.Facts.{to_z-of_z}
-use Rattle.io.specs.Counts.{clamp_len}
+use Rattle.std.specs.Prelude.{Result, Ok, Err}
 use Rattle.limits_block.specs.LimitsBlock.{limits as brought, accepted, in_force}
 use Rattle.limits_block.proofs.Accepted.{twelve}
 use Rattle.lines.specs.Lines.{lines}
@@ -204,34 +199,18 @@ pub part_long : {A : Type 0} (l : List A) (from to : ℕ) → from ≤ to → to
 part_long l from to in_order inside = rw (length-take (to - from) (drop from l), length-drop from l) (omega arith)
 
 -- no more is moved than there was room for
-pub within : (z : ℤ) (most : ℕ) → count (heard z most) ≤ most
-within (pos k) most = omega arith
-within (negsuc k) most = omega arith
+pub within : {E : Type 0} (moved : Result ℕ E) (most : ℕ) → count (heard moved most) ≤ most
+within (Ok k) most = omega arith
+within (Err e) most = omega arith
 
 pub fits_in : (a : ℕ) {gave : Heard} {n : ℕ} → gave ≡ Bytes n → a + count gave ≤ 512 → a + n ≤ 512
 fits_in a e h = rw e at h
 
--- `hear`
-module _ (z : ℤ) (most : ℕ) (fits : SFits w64 z) where
-  failed_if : (y : ℤ) → lt_z y (pos 0) ≡ true → Failed ≡ heard y most
-  failed_if (pos k) h = let z = ltb-true k 0 h in absurd (omega arith)
-  failed_if (negsuc k) h = refl
-
-  bytes_if : (y : ℤ) → lt_z y (pos 0) ≡ false → Bytes (clamp_len y most) ≡ heard y most
-  bytes_if (pos k) h = refl
-  bytes_if (negsuc k) h = absurd (true≢false h)
-
-  pub hears_failure : lt_z (to_z w64 (of_z w64 z)) (pos 0) ≡ true → Failed ≡ heard z most
-  hears_failure h = failed_if z (rw (to_z-of_z fits) at h)
-
-  pub hears_bytes : {n : ℕ} → lt_z (to_z w64 (of_z w64 z)) (pos 0) ≡ false → n ≡ clamp_len (to_z w64 (of_z w64 z)) most → Bytes n ≡ heard z most
-  hears_bytes h e = rw (e, to_z-of_z fits) (bytes_if z (rw (to_z-of_z fits) at h))
-
 -- what was heard of a part
-pub wrote_within : (out : List ℕ) (from to : ℕ) → from ≤ to → to ≤ length out → {r : Heard} (z : ℤ) → r ≡ heard z (length (take (to - from) (drop from out))) → from + count r ≤ to
-wrote_within out from to in_order inside z e =
+pub wrote_within : (out : List ℕ) (from to : ℕ) → from ≤ to → to ≤ length out → {E : Type 0} {r : Heard} (moved : Result ℕ E) → r ≡ heard moved (length (take (to - from) (drop from out))) → from + count r ≤ to
+wrote_within out from to in_order inside moved e =
     let long = part_long out from to in_order inside in
-    rw (e, long) (omega (arith, within z (to - from)))
+    rw (e, long) (omega (arith, within moved (to - from)))
 
 module _ (block ys : List ℕ) (filled : ℕ) (inside : filled ≤ length block) (h : length ys ≡ length (mid_of filled (length block - filled) block)) where
   -- the block after a read
@@ -244,11 +223,11 @@ module _ (block ys : List ℕ) (filled : ℕ) (inside : filled ≤ length block)
   pub read_kept : take filled after ≡ take filled block
   read_kept = take_put filled (length block - filled) block ys inside
 
-  pub read_within : {r : Heard} (z : ℤ) → r ≡ heard z (length (take (length after - filled) (drop filled after))) → filled + count r ≤ length block
-  read_within z e =
+  pub read_within : {E : Type 0} {r : Heard} (moved : Result ℕ E) → r ≡ heard moved (length (take (length after - filled) (drop filled after))) → filled + count r ≤ length block
+  read_within moved e =
       let same = read_long in
       let long = part_long after filled (length after) (omega (arith, same)) (le_refl (length after)) in
-      rw (e, long, same) (omega (arith, within z (length block - filled)))
+      rw (e, long, same) (omega (arith, within moved (length block - filled)))
 
 -- `next`
 module _ (p : Progress) where

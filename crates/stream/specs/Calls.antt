@@ -1,5 +1,5 @@
 -- What a run of calls of the system reads and prints.
-use Rattle.std.specs.Prelude.{ℕ, ◌+◌, ◌<◌, ◌≡◌, Bool, true, false, cond, List, [], ◌∷◌, ◌++◌, length, take}
+use Rattle.std.specs.Prelude.{ℕ, ◌+◌, ◌<◌, ◌≡◌, true, cond, List, [], ◌∷◌, ◌++◌, length, take}
 use Rattle.stream.specs.Standing.{Standing, start, some, count, next, go_on}
 use Rattle.stream.specs.Output.{output}
 use Rattle.stream.specs.declared.progress.Ask.TheVariants.{Stop}

@@ -1,5 +1,5 @@
 -- The standing that the program's numbers, its block, its limits and its buffer stand for.
-use Rattle.std.specs.Prelude.{ℕ, ◌+◌, ◌-◌, ◌<◌, ◌≤◌, ◌^◌, ◌≡◌, Bool, true, cond, List, eqb, Float, length, take, drop}
+use Rattle.std.specs.Prelude.{ℕ, ◌+◌, ◌-◌, ◌<◌, ◌≤◌, ◌≡◌, Bool, true, cond, List, eqb, Float, length, take, drop}
 use Rattle.stream.specs.Standing.{Standing, next, go_on}
 use Rattle.stream.specs.declared.progress.Ask.{Ask}
 use Rattle.stream.specs.declared.progress.Heard.{Heard}

@@ -1,5 +1,5 @@
 -- How the program stands between two calls of the system, and how it goes on after one. Calls.antt says what a run of calls prints, and proofs/Right.antt that it is the output.
-use Rattle.std.specs.Prelude.{ℕ, ◌+◌, min, Bool, true, false, cond, List, [], ◌∷◌, ◌++◌, eqb, Float, ℤ, pos, negsuc, length, take, drop}
+use Rattle.std.specs.Prelude.{ℕ, min, Bool, true, false, cond, List, [], ◌∷◌, ◌++◌, eqb, Float, Result, Ok, Err, length, take, drop}
 use Rattle.limits_block.specs.LimitsBlock.{in_force}
 use Rattle.lines.specs.Lines.{lines}
 use Rattle.stream.specs.Output.{place_after}
@@ -75,10 +75,10 @@ some (x ∷ rest) = true
 unfoldable pub next : Standing → Ask
 next s = cond s.failed Stop (cond (some s.pending) Write (cond s.ended Stop Read))
 
--- what a call of the system gave: -1 where it failed, else how many bytes it moved, of at most so many
-abbrev pub heard : ℤ → ℕ → Heard
-heard (pos k) most = Bytes (min k most)
-heard (negsuc k) most = Failed
+-- what a call of the system gave: an error where it failed, else how many bytes it moved, of at most so many
+abbrev pub heard : {E : Type 0} → Result ℕ E → ℕ → Heard
+heard (Ok k) most = Bytes (min k most)
+heard (Err e) most = Failed
 
 -- how many bytes it moved
 abbrev pub count : Heard → ℕ

@@ -6,31 +6,33 @@ ghost use Rattle.stream.specs.Calls.{Served};
 ghost use Rattle.stream.specs.Progress.{standing, Asked, Sound, Ready, Turned};
 
 use crate::progress::{Ask, Heard, Limits, Progress, after_read, after_write, hear, next, start};
-use libc::{STDERR_FILENO, STDIN_FILENO, STDOUT_FILENO};
 use lines::Buffer;
+use std::io;
+use std::io::{Eprint, Read, Write};
 
 // One read, to the rest of the block; the bytes before it stay.
-fn read_on(block: &mut [u8], filled: usize) -> Heard
+fn read_on<I: Read>(input: &mut I, block: &mut [u8], filled: usize) -> Heard
     requires { filled ≤ length block.old }
     ensures result_in_bounds { filled + count result ≤ length block.old }
     ensures block_unchanged { take filled block.new ≡ take filled block.old }
     ensures block_len_unchanged { length block.new ≡ length block.old }
 {
-    let moved = libc::read(STDIN_FILENO, &mut block[filled..]);
+    let moved = input.read(&mut block[filled..]);
     hear(moved, &block[filled..])
 }
 
 // One write of a part of the buffer.
-fn write_on(out: &[u8], from: usize, to: usize) -> Heard
+fn write_on<O: Write>(output: &mut O, out: &[u8], from: usize, to: usize) -> Heard
     requires { (from ≤ to) × (to ≤ length out.now) }
     ensures { from + count result ≤ to }
 {
-    let moved = libc::write(STDOUT_FILENO, &out[from..to]);
+    let moved = output.write(&out[from..to]);
     hear(moved, &out[from..to])
 }
 
 // One read, and how the program goes on after it.
-fn read_turn(
+fn read_turn<I: Read>(
+    input: &mut I,
     p: Progress,
     block: &mut [u8],
     limits: &mut Limits,
@@ -41,12 +43,14 @@ fn read_turn(
     requires { Ready p block.old out.old angles.old flags.old × (p.place + 1 < 2 ^ 64) × Asked p Ask.Read }
     ensures { Turned p block.old limits.old out.old result block.new limits.new out.new }
 {
-    let gave = read_on(block, p.filled);
+    let gave = read_on(input, block, p.filled);
     after_read(p, gave, block, limits, angles, flags, out)
 }
 
 // One call of the system, and how the program goes on after it.
-fn turn(
+fn turn<I: Read, O: Write>(
+    input: &mut I,
+    output: &mut O,
     p: Progress,
     ask: Ask,
     block: &mut [u8],
@@ -60,13 +64,15 @@ fn turn(
 {
     match ask {
         Ask::Stop => p,
-        Ask::Write => after_write(p, write_on(out, p.from, p.to)),
-        Ask::Read => read_turn(p, block, limits, angles, flags, out),
+        Ask::Write => after_write(p, write_on(output, out, p.from, p.to)),
+        Ask::Read => read_turn(input, p, block, limits, angles, flags, out),
     }
 }
 
 // Calls until nothing more is asked. (No run comes to the last count.)
-fn serve(
+fn serve<I: Read, O: Write>(
+    input: &mut I,
+    output: &mut O,
     block: &mut [u8],
     limits: &mut Limits,
     angles: &mut [f64],
@@ -83,35 +89,42 @@ fn serve(
         if let Ask::Stop = ask {
             return p;
         }
-        p = turn(p, ask, block, limits, angles, flags, out);
+        p = turn(input, output, p, ask, block, limits, angles, flags, out);
         calls += 1;
     }
     p
 }
 
 // A read or a write that failed is told: the lines then end early.
-fn tell(p: Progress) {
-    if p.failed {
-        if p.from < p.to {
-            io::write_all(
-                STDERR_FILENO,
-                b"saihkeb: standard output could not be written\n",
-            );
-        } else {
-            io::write_all(
-                STDERR_FILENO,
-                b"saihkeb: standard input could not be read\n",
-            );
-        }
+fn tell<E: Eprint>(errors: &E, p: Progress) -> io::Result<()> {
+    if !p.failed {
+        return Ok(());
+    }
+    if p.from < p.to {
+        eprintln!(errors; "saihkeb: standard output could not be written")
+    } else {
+        eprintln!(errors; "saihkeb: standard input could not be read")
     }
 }
 
-// Space for a block, for limits, for 1,024 answers and for their lines.
-pub fn run() {
+// Space for a block, for limits, for 1,024 answers and for their lines. What fails may be the
+// telling of a failure.
+pub fn run(rt: &HostRuntime) -> io::Result<()> {
+    let mut input = rt.stdin();
+    let mut output = rt.stdout();
     let mut block = [0u8; 512];
     let mut limits = [0.0; 12];
     let mut angles = [0.0; 6144];
     let mut flags = [0u8; 1024];
     let mut out = [0u8; 106608];
-    tell(serve(&mut block, &mut limits, &mut angles, &mut flags, &mut out));
+    let p = serve(
+        &mut input,
+        &mut output,
+        &mut block,
+        &mut limits,
+        &mut angles,
+        &mut flags,
+        &mut out,
+    );
+    tell(rt, p)
 }

@@ -1,6 +1,8 @@
 // What the programs run: blocks are read from standard input to its end, and the lines of each are
 // printed. What is printed, and how the program goes on after a call of the system, is decided in
 // progress.rt and proved there; calls.rt reads and writes.
+#![tactic(auto)]
+
 mod calls;
 mod progress;
 

@@ -8,6 +8,7 @@ ghost use Rattle.stream.specs.Progress.{held, standing, failing, wrote, Sound, R
 
 use limits_block::take_limits;
 use lines::{Buffer, lines};
+use std::io;
 
 // Space for the limits in force: twelve numbers, where there are any.
 pub type Limits = [f64; 12];
@@ -41,14 +42,14 @@ pub enum Heard {
     Failed,
 }
 
-// The number that a call gave for a part.
-pub fn hear(moved: isize, part: &[u8]) -> Heard
+// What a call gave for a part: how many of its bytes were moved, or that the call failed.
+pub fn hear(moved: io::Result<usize>, part: &[u8]) -> Heard
     ensures { result ≡ heard moved (length part.now) }
 {
-    if moved < 0 {
-        return Heard::Failed;
+    match moved {
+        Ok(n) => Heard::Bytes(n.min(part.len())),
+        Err(_) => Heard::Failed,
     }
-    Heard::Bytes(io::count(moved, part))
 }
 
 fn count(gave: Heard) -> usize
