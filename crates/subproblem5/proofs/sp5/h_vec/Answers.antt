@@ -9,8 +9,7 @@ use Rattle.polynomial.specs.declared.Vector5.{Vector5}
 use Rattle.solutionset.specs.SolutionSet4.{slots}
 use Rattle.solutionset.specs.declared.Slots4.{Slots4}
 use Rattle.subproblem5.specs.Subproblem5.{epsilon, eqn_real, h_vec}
-use Rattle.subproblem5.proofs.sp5.h_vec.Statement.{statement}
-use Rattle.subproblem5.proofs.sp5.h_vec.Tie as tie
+use Rattle.subproblem5.proofs.sp5.h_vec.Goals as goal
 
 met : (c1 c3 : Cone) {v : Vector5} {q : Quartic} {found : Roots} {r : Slots4}
     → v ≡ eqn_real c1 c3
@@ -21,8 +20,5 @@ met : (c1 c3 : Cone) {v : Vector5} {q : Quartic} {found : Roots} {r : Slots4}
 unfolding h_vec
 met c1 c3 e1 e2 e3 e4 = rw (e3, e2, e1) at e4
 
-returns : tie.Need-returns
+pub returns : goal.returns
 returns c = search met
-
-pub h-vec-spec : {M : Type 1} → statement M
-h-vec-spec = tie.close (tie.spec (λ _ _. tt) (λ _ _. tt) (λ _ _. tt) (λ _ _. tt) returns)

@@ -11,17 +11,10 @@ use borrow.Author.Rules.{rules}
 use Rattle.solutionset.specs.declared.triples.Triple.{Triple}
 use Rattle.subproblem5.specs.Port.{unordered}
 use Rattle.triple_sort.specs.declared.Ordered.{Ordered}
-use Rattle.subproblem5.proofs.reduced.unordered.Statement.{statement}
-use Rattle.subproblem5.proofs.reduced.unordered.Tie as tie
+use Rattle.subproblem5.proofs.reduced.unordered.Goals as goal
 
 abbrev outside : Triple
 outside = record { first = nan; second = nan; third = nan }
-
-abbrev invariant-loop : tie.invariant-loop
-invariant-loop n solutions t₀ i₀ t i = (i ≤ n) × (length t ≡ 16) × (take i t ≡ map unordered (take i solutions))
-
-abbrev decreases-loop : tie.decreases-loop
-decreases-loop n solutions t₀ i₀ t i = n - i
 
 module _ (n i : ℕ) (l : List Triple) (t : List Ordered) (f : n ≤ 16) (k : length l ≡ 16) (h : i < n) (m : length t ≡ 16) where
   same_length : (v : Ordered) → length (set t i v) ≡ 16
@@ -39,27 +32,11 @@ module _ (n i : ℕ) (l : List Triple) (t : List Ordered) (f : n ≤ 16) (k : le
 end : (n i : ℕ) (l : List Triple) (t : List Ordered) → i ≤ n → n ≤ i → take i t ≡ map unordered (take i l) → take n t ≡ map unordered (take n l)
 end n i l t g h inv = let e : i ≡ n = omega arith in rw e at inv
 
-loop-holds : tie.Need-loop-init invariant-loop decreases-loop
-loop-holds c = (omega arith, refl, refl)
+pub loop-i-init : goal.loop-i-init
+loop-i-init c = (omega arith, refl, refl)
 
-loop-again : tie.Need-loop-preserved invariant-loop decreases-loop
-loop-again c = (omega arith, search same_length, search again)
+pub loop-i-preserved : goal.loop-i-preserved
+loop-i-preserved c = (omega arith, search same_length, search again)
 
-returns : tie.Need-returns invariant-loop decreases-loop
+pub returns : goal.returns
 returns c = search end
-
-pub unordered-spec : {M : Type 1} → statement M
-unordered-spec =
-    tie.close
-    (tie.spec
-    invariant-loop
-    decreases-loop
-    loop-holds
-    (λ c. search rules)
-    (λ c. search rules)
-    (λ c. search rules)
-    (λ c. search rules)
-    (λ c. search rules)
-    (λ c. search rules)
-    loop-again
-    returns)

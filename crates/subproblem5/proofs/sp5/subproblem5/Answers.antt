@@ -22,8 +22,7 @@ use Rattle.subproblem5.specs.Subproblem5.{h_vec, subproblem5}
 use Rattle.subproblem5.specs.declared.Candidates.{Candidates}
 use Rattle.subproblem5.specs.declared.Circle.{Circle}
 use Rattle.subproblem5.proofs.Cut.{cut}
-use Rattle.subproblem5.proofs.sp5.subproblem5.Statement.{statement}
-use Rattle.subproblem5.proofs.sp5.subproblem5.Tie as tie
+use Rattle.subproblem5.proofs.sp5.subproblem5.Goals as goal
 
 -- the first of the slots that hold a list, as many as it has
 first_of : {A : Type 0} (n : ℕ) (d : A) (l : List A) → take (length l) (padded n d l) ≡ l
@@ -45,18 +44,5 @@ met p0 p1 p2 p3 k1 k2 k3 {c1} {c3} {cone1} {cone3} {heights} {found} e1 e3 e-c1 
     let f : take found.count found.slots ≡ m = rw e-f (rw h (first_of 16 none m)) in
     (rw (f, e-c1, e-c3, e1, e3) at e) ∙ cut p0 p1 p2 p3 k1 k2 k3
 
-returns : tie.Need-returns
+pub returns : goal.returns
 returns c = search met
-
-pub subproblem5-spec : {M : Type 1} → statement M
-subproblem5-spec =
-    tie.close
-    (tie.spec
-    (λ _ _. tt)
-    (λ _ _. tt)
-    (λ _ _. tt)
-    (λ _ _. tt)
-    (λ _ _. tt)
-    (λ _ _. tt)
-    (λ c κs. search rules)
-    returns)

@@ -14,8 +14,7 @@ use Rattle.solutionset.specs.declared.triples.Triple.{Triple}
 use Rattle.solutionset.specs.declared.triples.TripleSlots4.{TripleSlots4}
 use Rattle.subproblem5.specs.Port.{angles, agree, pushed}
 use Rattle.subproblem5.specs.declared.Point.{Point}
-use Rattle.subproblem5.proofs.sp5.push.Statement.{statement}
-use Rattle.subproblem5.proofs.sp5.push.Tie as tie
+use Rattle.subproblem5.proofs.sp5.push.Goals as goal
 
 module _ (found : TripleSlots4) (k2 : Vector3) (q1 q3 : Point) {b : Bool} (e-b : b ≡ lt (abs (sqrt q1.distance_sq ⊖ sqrt q3.distance_sq)) tolerance) where
   taken : {t : Triple}
@@ -29,13 +28,8 @@ module _ (found : TripleSlots4) (k2 : Vector3) (q1 q3 : Point) {b : Bool} (e-b :
   unfolding agree
   left t = cc
 
-returns : tie.Need-returns
-returns c = (search taken, search rules)
+pub returns-then-norms_agree : goal.returns-then-norms_agree
+returns-then-norms_agree c = (search taken, search rules)
 
-returns-2 : tie.Need-returns-2
-returns-2 c = (search left, search rules)
-
-pub push_spec : {M : Type 1} → statement M
-push_spec =
-    tie.close
-    (tie.spec (λ _ _. tt) (λ _ _. tt) (λ c. search rules) (λ c. search rules) (λ c. search rules) returns returns-2)
+pub returns : goal.returns
+returns c = (search left, search rules)

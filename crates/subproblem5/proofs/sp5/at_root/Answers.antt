@@ -12,8 +12,7 @@ use Rattle.solutionset.specs.declared.triples.TripleSlots4.{TripleSlots4}
 use Rattle.subproblem5.specs.Port.{sq, points, of_points, at_root}
 use Rattle.subproblem5.specs.declared.Circle.{Circle}
 use Rattle.subproblem5.specs.declared.Points.{Points}
-use Rattle.subproblem5.proofs.sp5.at_root.Statement.{statement}
-use Rattle.subproblem5.proofs.sp5.at_root.Tie as tie
+use Rattle.subproblem5.proofs.sp5.at_root.Goals as goal
 
 module _ (c1 c3 : Circle) (k2 : Vector3) (h : Float) {sq1 : Float} (e1 : sq1 ≡ sq c1 h) where
   first_below : {r : TripleSlots4} → lt sq1 nought ≡ true → r ≡ slots [] → r ≡ slots (at_root c1 c3 k2 h)
@@ -38,27 +37,11 @@ module _ (c1 c3 : Circle) (k2 : Vector3) (h : Float) {sq1 : Float} (e1 : sq1 ≡
         let u = rw e3 at t in
         rw (u1, u) (rw (e-s1, e-s3, e-h, e1, e3) at e)
 
-returns : tie.Need-returns
-returns c = (search first_below, search rules)
+pub returns-then-sq1 : goal.returns-then-sq1
+returns-then-sq1 c = (search first_below, search rules)
 
-returns-2 : tie.Need-returns-2
-returns-2 c = (search second_below, search rules)
+pub returns-then-sq3 : goal.returns-then-sq3
+returns-then-sq3 c = (search second_below, search rules)
 
-returns-3 : tie.Need-returns-3
-returns-3 c = (search both, search rules)
-
-pub at-root-spec : {M : Type 1} → statement M
-at-root-spec =
-    tie.close
-    (tie.spec
-    (λ _ _. tt)
-    (λ _ _. tt)
-    returns
-    (λ _ _. tt)
-    (λ _ _. tt)
-    returns-2
-    (λ _ _. tt)
-    (λ _ _. tt)
-    (λ _ _. tt)
-    (λ _ _. tt)
-    returns-3)
+pub returns : goal.returns
+returns c = (search both, search rules)

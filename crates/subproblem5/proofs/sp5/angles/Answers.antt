@@ -7,8 +7,7 @@ use Rattle.solutionset.specs.declared.triples.Triple.{Triple}
 use Rattle.subproblems.specs.Subproblem1.{subproblem1_theta, subproblem1_within, subproblem1}
 use Rattle.subproblem5.specs.Port.{angles}
 use Rattle.subproblem5.specs.declared.Point.{Point}
-use Rattle.subproblem5.proofs.sp5.angles.Statement.{statement}
-use Rattle.subproblem5.proofs.sp5.angles.Tie as tie
+use Rattle.subproblem5.proofs.sp5.angles.Goals as goal
 
 met : (k2 : Vector3) (q1 q3 : Point) {t1 t2 t3 : Float}
     → t1 ≡ atan2 q1.sc.x q1.sc.y
@@ -18,8 +17,5 @@ met : (k2 : Vector3) (q1 q3 : Point) {t1 t2 t3 : Float}
 unfolding angles subproblem1 subproblem1_within
 met k2 q1 q3 e1 e2 e3 = cc
 
-returns : tie.Need-returns
+pub returns : goal.returns
 returns c = search met
-
-pub angles-spec : {M : Type 1} → statement M
-angles-spec = tie.close (tie.spec (λ _ _. tt) (λ _ _. tt) (λ _ _. tt) returns)

@@ -13,19 +13,8 @@ use Rattle.triple_sort.specs.Port.{at_front}
 use Rattle.subproblem5.specs.Port.{with_gaps}
 use Rattle.subproblem5.specs.Reduced.{with_ordering}
 use Rattle.triple_sort.specs.declared.Ordered.{Ordered}
-use Rattle.subproblem5.proofs.reduced.with_ordering.Statement.{statement}
-use Rattle.subproblem5.proofs.reduced.with_ordering.Tie as tie
-
-abbrev outside : Ordered
-outside = record { ordering = nan; solution = record { first = nan; second = nan; third = nan } }
-
-abbrev ordered : Float → Triple → Ordered
-ordered last s = record { ordering = one ⊘ ((s.first ⊖ last) ⊗ (s.first ⊖ last)); solution = s }
-
--- the ordering values of k places from i on
-unfoldable from : ℕ → ℕ → Float → List Ordered → List Ordered
-from zero i last t = t
-from (suc k) i last t = let s = (get_or t i outside).solution in from k (suc i) s.first (set t i (ordered last s))
+use Rattle.subproblem5.proofs.reduced.with_ordering.Goals as goal
+use Rattle.subproblem5.proofs.reduced.with_ordering.Invariants.{from, outside, ordered}
 
 from-after : (k i : ℕ) (last : Float) (x : Ordered) (t : List Ordered) → from k (suc i) last (x ∷ t) ≡ x ∷ from k i last t
 unfolding from
@@ -41,12 +30,6 @@ from_is (suc k) last (x ∷ t) h =
     let s = x.solution in
     from-after k 0 s.first (ordered last s) t
     ∙ ap (λ (l : List Ordered). ordered last s ∷ l) (from_is k s.first t (omega arith))
-
-abbrev invariant-loop : tie.invariant-loop
-invariant-loop n t₀ last₀ i₀ t last i = (i ≤ n) × (from (n - i) i last t ≡ from n 0 infinity t₀)
-
-abbrev decreases-loop : tie.decreases-loop
-decreases-loop n t₀ last₀ i₀ t last i = n - i
 
 begin : (n : ℕ) (t : List Ordered) {last : Float} → last ≡ infinity → from (n - 0) 0 last t ≡ from n 0 infinity t
 begin n t e = let z : n - 0 ≡ n = omega arith in cc
@@ -68,28 +51,11 @@ end n i last t t₀ f l h inv =
     let over : n - i ≡ 0 = omega arith in
     (rw over at inv) ∙ from_is n infinity t₀ (omega arith)
 
-loop-holds : tie.Need-loop-init invariant-loop decreases-loop
-loop-holds c = (omega arith, search begin)
+pub loop-i-init : goal.loop-i-init
+loop-i-init c = (omega arith, search begin)
 
-loop-again : tie.Need-loop-preserved invariant-loop decreases-loop
-loop-again c = (omega arith, search again)
+pub loop-i-preserved : goal.loop-i-preserved
+loop-i-preserved c = (omega arith, search again)
 
-returns : tie.Need-returns invariant-loop decreases-loop
+pub returns : goal.returns
 returns c = search end
-
-pub with-ordering-spec : {M : Type 1} → statement M
-with-ordering-spec =
-    tie.close
-    (tie.spec
-    invariant-loop
-    decreases-loop
-    (λ _ _. tt)
-    loop-holds
-    (λ c. search rules)
-    (λ c. search rules)
-    (λ c. search rules)
-    (λ c. search rules)
-    (λ c. search rules)
-    (λ c. search rules)
-    loop-again
-    returns)

@@ -8,8 +8,7 @@ use Rattle.polynomial.specs.Convolution.{vec_self_convolve_2, vec_self_convolve_
 use Rattle.polynomial.specs.declared.Cone.{Cone}
 use Rattle.polynomial.specs.declared.Vector5.{Vector5}
 use Rattle.subproblem5.specs.Subproblem5.{eqn_real}
-use Rattle.subproblem5.proofs.sp5.eqn_real.Statement.{statement}
-use Rattle.subproblem5.proofs.sp5.eqn_real.Tie as tie
+use Rattle.subproblem5.proofs.sp5.eqn_real.Goals as goal
 
 met : (c1 c3 : Cone) {p-13-sq d rhs : Vector3} {u v : Vector5}
     → p-13-sq ≡ vec_self_convolve_2 (record { x = c1.p.x ⊖ c3.p.x; y = c1.p.y ⊖ c3.p.y })
@@ -29,10 +28,6 @@ met : (c1 c3 : Cone) {p-13-sq d rhs : Vector3} {u v : Vector5}
 unfolding eqn_real
 met c1 c3 e1 e2 e3 e4 e5 = cc
 
-returns : tie.Need-returns
+pub returns : goal.returns
 unfolding of_int of_bits
 returns c = search met
-
-pub eqn-real-spec : {M : Type 1} → statement M
-eqn-real-spec =
-    tie.close (tie.spec (λ _ _. tt) (λ _ _. tt) (λ _ _. tt) (λ _ _. tt) (λ _ _. tt) returns)

@@ -11,8 +11,7 @@ use Rattle.subproblem5.specs.Port.{circle}
 use Rattle.subproblem5.specs.Subproblem5.{j_transpose_times}
 use Rattle.subproblem5.specs.declared.Circle.{Circle}
 use Rattle.subproblems.specs.declared.Columns.{Columns}
-use Rattle.subproblem5.proofs.sp5.circle.Statement.{statement}
-use Rattle.subproblem5.proofs.sp5.circle.Tie as tie
+use Rattle.subproblem5.proofs.sp5.circle.Goals as goal
 
 met : (p0 p k k2 : Vector3) {kk : Matrix} {kkp p-s : Vector3} {a : Columns} {x y delta : Float} {j : Vector2}
     → kk ≡ outer k k
@@ -29,19 +28,5 @@ met : (p0 p k k2 : Vector3) {kk : Matrix} {kkp p-s : Vector3} {a : Columns} {x y
 unfolding circle
 met p0 p k k2 e1 e2 e3 e4 e5 e6 e7 e8 = cc
 
-returns : tie.Need-returns
+pub returns : goal.returns
 returns c = search met
-
-pub circle-spec : {M : Type 1} → statement M
-circle-spec =
-    tie.close
-    (tie.spec
-    (λ _ _. tt)
-    (λ _ _. tt)
-    (λ _ _. tt)
-    (λ _ _. tt)
-    (λ _ _. tt)
-    (λ _ _. tt)
-    (λ _ _. tt)
-    (λ _ _. tt)
-    returns)

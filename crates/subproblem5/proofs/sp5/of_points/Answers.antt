@@ -12,8 +12,7 @@ use Rattle.subproblem5.specs.Port.{angles, agree, candidate, of_points, pushed}
 use Rattle.subproblem5.specs.declared.Point.{Point}
 use Rattle.subproblem5.specs.declared.Points.{Points}
 use Rattle.subproblem5.proofs.InSlots.{one_more, regroup}
-use Rattle.subproblem5.proofs.sp5.of_points.Statement.{statement}
-use Rattle.subproblem5.proofs.sp5.of_points.Tie as tie
+use Rattle.subproblem5.proofs.sp5.of_points.Goals as goal
 
 -- r is what a call of push gives with these points
 abbrev Push : TripleSlots4 → Vector3 → Point → Point → TripleSlots4 → Type 0
@@ -44,20 +43,9 @@ met k2 s1 s3 e0 e1 e2 e3 e4 =
     let h4 = step (m1 ++ m2 ++ m3) k2 s1.minus s3.minus h3 (omega arith) e4 in
     h4 ∙ ap slots (regroup m1 m2 m3 (candidate k2 s1.minus s3.minus))
 
-returns : tie.Need-returns
+pub returns : goal.returns
 returns c =
     let at3 = c.before in
     let at2 = at3.before in
     let at1 = at2.before in
-    (met _ _ _ at1.before.no-candidates.ensures at1.push.ensures at2.push2.ensures at3.push3.ensures c.push4.ensures, search rules)
-
-pub of-points-spec : {M : Type 1} → statement M
-of-points-spec =
-    tie.close
-    (tie.spec
-    (λ _ _. tt)
-    (λ c κs. search rules)
-    (λ c κs. search rules)
-    (λ c κs. search rules)
-    (λ c κs. search rules)
-    returns)
+    (met _ _ _ at1.before.no_candidates-none.ensures at1.push-after1.ensures at2.push-after2.ensures at3.push-after3.ensures c.push.ensures, search rules)

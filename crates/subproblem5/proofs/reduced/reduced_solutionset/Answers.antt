@@ -21,8 +21,7 @@ use Rattle.subproblem5.specs.Reduced.{with_ordering, solution_of, reduced_soluti
 use Rattle.triple_sort.specs.declared.Ordered.{Ordered}
 use Rattle.triple_sort.proofs.Passes.{length_sort, front_of, length_front_of, sort_map}
 use Rattle.subproblem5.proofs.InSlots.{map_take, first_four}
-use Rattle.subproblem5.proofs.reduced.reduced_solutionset.Statement.{statement}
-use Rattle.subproblem5.proofs.reduced.reduced_solutionset.Tie as tie
+use Rattle.subproblem5.proofs.reduced.reduced_solutionset.Goals as goal
 
 abbrev outside : Triple
 outside = record { first = nan; second = nan; third = nan }
@@ -84,25 +83,8 @@ many n l t1 {t2} {t3} {t4} f k h e1 e2 e3 e4 e =
     let g5 = map_take solution_of n t4 in
     cc
 
-returns : tie.Need-returns
-returns c = search few
+pub returns-then-n-le4 : goal.returns-then-n-le4
+returns-then-n-le4 c = search few
 
-returns-2 : tie.Need-returns-2
-returns-2 c = search many
-
-pub reduced-solutionset-spec : {M : Type 1} → statement M
-reduced-solutionset-spec =
-    tie.close
-    (tie.spec
-    (λ c. search rules)
-    (λ c. search rules)
-    (λ c. search rules)
-    (λ c. search rules)
-    (λ c κs. search rules)
-    returns
-    (λ c κs. search rules)
-    (λ c κs. search rules)
-    (λ c κs. search rules)
-    (λ c κs. search rules)
-    (λ _ _. tt)
-    returns-2)
+pub returns : goal.returns
+returns c = search many

@@ -11,8 +11,7 @@ use Rattle.solutionset.specs.declared.triples.TripleSet4.TheVariants.{Four}
 use Rattle.subproblem5.specs.Reduced.{solution_of}
 use Rattle.triple_sort.specs.declared.Ordered.{Ordered}
 use Rattle.subproblem5.proofs.InSlots.{map_take, first_four}
-use Rattle.subproblem5.proofs.reduced.first_four.Statement.{statement}
-use Rattle.subproblem5.proofs.reduced.first_four.Tie as tie
+use Rattle.subproblem5.proofs.reduced.first_four.Goals as goal
 
 abbrev outside : Ordered
 outside = record { ordering = nan; solution = record { first = nan; second = nan; third = nan } }
@@ -23,10 +22,5 @@ met : (t : List Ordered)
     ≡ from_vec (take 4 (map solution_of t))
 met t h = rw (← map_take solution_of 4 t, first_four outside t h)
 
-returns : tie.Need-returns
+pub returns : goal.returns
 returns c = search met
-
-pub first-four-spec : {M : Type 1} → statement M
-first-four-spec =
-    tie.close
-    (tie.spec (λ c. search rules) (λ c. search rules) (λ c. search rules) (λ c. search rules) returns)

@@ -8,8 +8,7 @@ use Rattle.subproblem5.specs.Port.{point}
 use Rattle.subproblem5.specs.Subproblem5.{◌+²◌, ◌·²◌, over², times}
 use Rattle.subproblem5.specs.declared.Circle.{Circle}
 use Rattle.subproblem5.specs.declared.Point.{Point}
-use Rattle.subproblem5.proofs.sp5.point.Statement.{statement}
-use Rattle.subproblem5.proofs.sp5.point.Tie as tie
+use Rattle.subproblem5.proofs.sp5.point.Goals as goal
 
 met : (c : Circle) (const pm : Vector2) (hk2 : Vector3) (sign : Float) {d : Vector3} {n : Float}
     → let sc = over² (const +² sign ·² pm) c.norm_sq in
@@ -20,8 +19,5 @@ met : (c : Circle) (const pm : Vector2) (hk2 : Vector3) (sign : Float) {d : Vect
 unfolding point
 met c const pm hk2 sign e1 e2 = rw (e2, e1)
 
-returns : tie.Need-returns
+pub returns : goal.returns
 returns c = search met
-
-pub point-spec : {M : Type 1} → statement M
-point-spec = tie.close (tie.spec (λ _ _. tt) (λ _ _. tt) returns)

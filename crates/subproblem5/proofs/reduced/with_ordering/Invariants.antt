@@ -1,0 +1,33 @@
+-- The invariant: what is left to fill gives what all gives.
+use Prim.Native.Nat.{ℕ, zero, suc, ◌+◌, ◌-◌, ◌≤◌, ◌<◌}
+use native.Mathlib.Omega.{arith}
+use native.Mathlib.Numerals.{add-one}
+use mathlib.Core.Path.{◌≡◌, refl, ap, ◌∙◌}
+use mathlib.Core.List.{List, [], ◌∷◌}
+use lib.Ieee.{Float, nan}
+use lib.ListN.{length, get_or, set}
+use borrow.Author.Rules.{rules}
+use Rattle.float.specs.Num.{◌⊖◌, ◌⊗◌, ◌⊘◌, one, infinity}
+use Rattle.solutionset.specs.declared.triples.Triple.{Triple}
+use Rattle.triple_sort.specs.Port.{at_front}
+use Rattle.subproblem5.specs.Port.{with_gaps}
+use Rattle.subproblem5.specs.Reduced.{with_ordering}
+use Rattle.triple_sort.specs.declared.Ordered.{Ordered}
+use Rattle.subproblem5.proofs.reduced.with_ordering.Given as goal
+
+abbrev pub outside : Ordered
+outside = record { ordering = nan; solution = record { first = nan; second = nan; third = nan } }
+
+abbrev pub ordered : Float → Triple → Ordered
+ordered last s = record { ordering = one ⊘ ((s.first ⊖ last) ⊗ (s.first ⊖ last)); solution = s }
+
+-- the ordering values of k places from i on
+unfoldable pub from : ℕ → ℕ → Float → List Ordered → List Ordered
+from zero i last t = t
+from (suc k) i last t = let s = (get_or t i outside).solution in from k (suc i) s.first (set t i (ordered last s))
+
+abbrev pub invariant-loop-i : goal.invariant-loop-i
+invariant-loop-i l = (l.i ≤ l.n) × (from (l.n - l.i) l.i l.last l.t ≡ from l.n 0 infinity l.initial.t)
+
+abbrev pub decreases-loop-i : goal.decreases-loop-i
+decreases-loop-i l = l.n - l.i
