@@ -15,8 +15,7 @@ use Rattle.arms.specs.Agreement.{Valid}
 use Rattle.arms.specs.Port.{Told}
 use Rattle.arms.proofs.Bytes.{empty_fault}
 use Rattle.arms.proofs.Parts.{number_at}
-use Rattle.arms.proofs.fault_at.Statement.{statement}
-use Rattle.arms.proofs.fault_at.Tie as tie
+use Rattle.arms.proofs.fault_at.Goals as goal
 
 module _ (l : List ℕ) (at : ℕ) (inside : at < length l) where
   short : length l - at < 512 → 1 ≡ block_fault (arms (blocks (take at l))) (take 512 (drop at l))
@@ -51,35 +50,14 @@ module _ (l : List ℕ) (at : ℕ) (inside : at < length l) where
       let z : at - 0 ≡ at = omega arith in
       rw (k, z, number_at l at) t
 
-returns : tie.Need-returns
-returns c = search short
+pub returns-then-buffer-at-lt512 : goal.returns-then-buffer-at-lt512
+returns-then-buffer-at-lt512 c = search short
 
-returns-2 : tie.Need-returns-2
-returns-2 c = search empty
+pub returns-then-zeros : goal.returns-then-zeros
+returns-then-zeros c = search empty
 
-block-fault-requires : tie.Need-block-fault-requires
-block-fault-requires c κs = (search earlier-valid, search held, search told)
+pub block_fault-requires : goal.block_fault-requires
+block_fault-requires c = (search earlier-valid, search held, search told)
 
-returns-3 : tie.Need-returns-3
-returns-3 c = search other
-
-pub fault-at-spec : {M : Type 1} → statement M
-fault-at-spec =
-    tie.close
-    (tie.spec
-    (λ c. search rules)
-    returns
-    (λ c. search rules)
-    (λ c. search rules)
-    (λ c. search rules)
-    (λ c. search rules)
-    (λ c κs. search rules)
-    returns-2
-    (λ c. search rules)
-    (λ c. search rules)
-    (λ c. search rules)
-    (λ c. search rules)
-    (λ c. search rules)
-    (λ c. search rules)
-    block-fault-requires
-    returns-3)
+pub returns : goal.returns
+returns c = search other

@@ -13,8 +13,7 @@ use Rattle.arms.specs.Agreement.{Valid}
 use Rattle.arms.specs.Port.{place}
 use Rattle.arms.proofs.Places.{valid_long, there_held, not_held, replace_at}
 use Rattle.arms.proofs.Calls.{bad, bad_kept, kept, done, own_next}
-use Rattle.arms.proofs.take_out.Statement.{statement}
-use Rattle.arms.proofs.take_out.Tie as tie
+use Rattle.arms.proofs.take_out.Goals as goal
 
 module _ (l : List ℕ) (n : ℕ) {fault : ℕ} (e : fault ≡ judge [] (blocks l)) where
   bad-refused : (fault ≡ 0 → ⊥) → fault ≡ refusal (take_out n) l
@@ -51,35 +50,16 @@ module _ (l : List ℕ) (n : ℕ) {fault : ℕ} (e : fault ≡ judge [] (blocks 
       none_left : length l ≤ at → l ≡ after (take_out n) l
       none_left h = kept (take_out n) l (none h) (λ z. omega arith)
 
-returns : tie.Need-returns
-returns c = (search bad-refused, search bad-left)
+pub returns-then-fault-ne0 : goal.returns-then-fault-ne0
+returns-then-fault-ne0 c = record { result = search bad-refused; buffer = search bad-left }
 
-part-clear-end : tie.Need-slice-bounds-clear-end
-part-clear-end c =
-    let p = c.before.before.before in
-    let a = p.before.before.before.before.args in
-    omega (arith, inside a.buffer.now a.number p.before.judge.ensures p.if1.false c.before.held_at.ensures c.if2.true)
+pub slice_bounds-clear-end : goal.slice_bounds-clear-end
+slice_bounds-clear-end c =
+    let a = c.args in
+    omega (arith, inside a.buffer.now a.number c.judge-fault.ensures c.if-fault-ne0.false c.held_at-from.ensures c.if-from-buffer.true)
 
-returns-2 : tie.Need-returns-2
-returns-2 c = (search taken, search taken-left)
+pub returns-then-from-buffer : goal.returns-then-from-buffer
+returns-then-from-buffer c = record { result = search taken; buffer = search taken-left }
 
-returns-3 : tie.Need-returns-3
-returns-3 c = (search none, search none_left)
-
-pub take-out-spec : {M : Type 1} → statement M
-take-out-spec =
-    tie.close
-    (tie.spec
-    (λ c κs. search rules)
-    (λ c. search rules)
-    returns
-    (λ c κs. search rules)
-    (λ c. search rules)
-    (λ c. search rules)
-    (λ c. search rules)
-    part-clear-end
-    (λ c κs. search rules)
-    (λ c. search rules)
-    returns-2
-    (λ c. search rules)
-    returns-3)
+pub returns-else-from-buffer : goal.returns-else-from-buffer
+returns-else-from-buffer c = record { result = search none; buffer = search none_left }

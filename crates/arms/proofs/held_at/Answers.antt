@@ -7,8 +7,7 @@ use Rattle.arms.specs.File.{blocks, has}
 use Rattle.arms.specs.Agreement.{Valid}
 use Rattle.arms.specs.Port.{place, named}
 use Rattle.arms.proofs.Places.{valid_whole, never_0, place_named}
-use Rattle.arms.proofs.held_at.Statement.{statement}
-use Rattle.arms.proofs.held_at.Tie as tie
+use Rattle.arms.proofs.held_at.Goals as goal
 
 module _ (l : List ℕ) (n : ℕ) (v : Valid l) where
   zero : n ≡ 0 → length l ≡ 512 * place (has n) (blocks l)
@@ -17,14 +16,11 @@ module _ (l : List ℕ) (n : ℕ) (v : Valid l) where
   other : {at : ℕ} → (n ≡ 0 → ⊥) → at ≡ 512 * place (named n) (blocks l) → at ≡ 512 * place (has n) (blocks l)
   other h e = rw (place_named l v n h) at e
 
-returns : tie.Need-returns
-returns c = search zero
+pub returns-then-n-eq0 : goal.returns-then-n-eq0
+returns-then-n-eq0 c = search zero
 
-place-of-requires : tie.Need-place-of-requires
-place-of-requires c κs = search valid_whole
+pub place_of-requires : goal.place_of-requires
+place_of-requires c = search valid_whole
 
-returns-2 : tie.Need-returns-2
-returns-2 c = search other
-
-pub held-at-spec : {M : Type 1} → statement M
-held-at-spec = tie.close (tie.spec returns place-of-requires returns-2)
+pub returns : goal.returns
+returns c = search other

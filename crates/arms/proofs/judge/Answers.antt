@@ -19,19 +19,8 @@ use Rattle.arms.specs.Port.{Told}
 use Rattle.arms.proofs.Lists.{at_end, more_holds}
 use Rattle.arms.proofs.Blocks.{then_is, first_is, arms_append, judge_append}
 use Rattle.arms.proofs.Parts.{number_at, blocks_none, blocks_at, blocks_split, blocks_up}
-use Rattle.arms.proofs.judge.Statement.{statement}
-use Rattle.arms.proofs.judge.Tie as tie
-
--- every number that is held is marked
-record Marks (seen : List Bool) (held : List Arm) : Type 0 where
-  pub long : length seen ≡ 256
-  pub told : (n : ℕ) → Told (get_or seen n false) n held
-
-abbrev invariant-loop : tie.invariant-loop
-invariant-loop buffer seen₀ at₀ seen at = (at % 512 ≡ 0) × Valid (take at buffer) × Marks seen (arms (blocks (take at buffer)))
-
-abbrev decreases-loop : tie.decreases-loop
-decreases-loop buffer seen₀ at₀ seen at = length buffer - at
+use Rattle.arms.proofs.judge.Goals as goal
+use Rattle.arms.proofs.judge.Invariants.{Marks}
 
 no-marks : (l : List ℕ) → Marks (replicate 256 false) (arms (blocks (take 0 l)))
 unfolding arms holds
@@ -94,36 +83,23 @@ module _ (l : List ℕ) (at : ℕ) (m : at % 512 ≡ 0) (v : Valid (take at l)) 
           let ne = eqb-false k n q in
           rw (get_or-set_other seen n k true false ne) (record { new = λ f. other k (λ i. ne (i ∙ sym e-n)) (whole l at e z) ∙ (marks.told k).new f })
 
-add_at : tie.Need-overflow-add-at invariant-loop decreases-loop
-add_at c =
+pub overflow_add-at : goal.overflow_add-at
+overflow_add-at c =
     let p = c.before.before.before.before in
-    omega (arith, whole p.before.before.args.buffer.now p.loop.at c.before.fault-at.ensures c.if1.false)
+    omega (arith, whole p.before.before.args.buffer.now p.loop-at.at c.before.fault_at-fault.ensures c.if-fault-ne0.false)
 
-loop-again : tie.Need-loop-preserved invariant-loop decreases-loop
-loop-again c = (omega arith, search next, search one_more)
+pub loop-at-preserved : goal.loop-at-preserved
+loop-at-preserved c = (omega arith, search next, search one_more)
 
-returns : tie.Need-returns invariant-loop decreases-loop
-returns c = search first
+pub returns-then-fault-ne0 : goal.returns-then-fault-ne0
+returns-then-fault-ne0 c = search first
 
-returns-2 : tie.Need-returns-2 invariant-loop decreases-loop
-returns-2 c = search end
+pub returns : goal.returns
+returns c = search end
 
-fault-at-requires : tie.Need-fault-at-requires invariant-loop decreases-loop
-fault-at-requires c κs = (omega arith, search rules, search mark)
+pub fault_at-fault-requires : goal.fault_at-fault-requires
+fault_at-fault-requires c = (omega arith, search rules, search mark)
 
-pub judge-spec : {M : Type 1} → statement M
-judge-spec =
-    tie.close
-    (tie.spec
-    invariant-loop
-    decreases-loop
-    (λ c. (refl, search start, search no-marks))
-    (λ c κs. search rules)
-    (λ c. search rules)
-    fault-at-requires
-    returns
-    (λ c. search rules)
-    add_at
-    (λ c. omega arith)
-    loop-again
-    returns-2)
+pub loop-at-init : goal.loop-at-init
+loop-at-init c =
+    (refl, search start, search no-marks)

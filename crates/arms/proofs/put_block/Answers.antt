@@ -12,8 +12,7 @@ use Rattle.block.specs.Check.{check}
 use Rattle.arms.specs.Arm.{Arm, numbered}
 use Rattle.arms.specs.File.{number_bytes, number_gap, little, eights, body, block_of}
 use Rattle.arms.proofs.Bytes.{length_little, check_before, body_length}
-use Rattle.arms.proofs.put_block.Statement.{statement}
-use Rattle.arms.proofs.put_block.Tie as tie
+use Rattle.arms.proofs.put_block.Goals as goal
 
 put-part : (p m s ys : List ℕ) (a k : ℕ) → length p ≡ a → length m ≡ k → put_mid a k (p ++ (m ++ s)) ys ≡ p ++ (ys ++ s)
 put-part p m s ys a k g h = rw (take_at p (m ++ s) a g, drop_at p (m ++ s) a g, drop_at m s k h)
@@ -76,26 +75,5 @@ module _ (b₀ : List ℕ) (n : ℕ) (numbers : List Float) {b m1 m2 m3 : List �
   unfolding block_of
   met = ap (λ (l : List ℕ). put_mid 504 8 l m3) at-two ∙ (last (body arm) (Zs 8) m3 b-long refl ∙ ap (λ (l : List ℕ). body arm ++ l) m3-is)
 
-returns : tie.Need-returns
+pub returns : goal.returns
 returns c = search met
-
-pub put-block-spec : {M : Type 1} → statement M
-put-block-spec =
-    tie.close
-    (tie.spec
-    (λ c κs. search rules)
-    (λ c. search rules)
-    (λ c. search rules)
-    (λ c. search rules)
-    (λ c κs. search rules)
-    (λ c. search rules)
-    (λ c. search rules)
-    (λ c. search rules)
-    (λ c κs. search rules)
-    (λ c κs. search rules)
-    (λ c. search rules)
-    (λ c. search rules)
-    (λ c. search rules)
-    (λ c κs. search rules)
-    (λ c. search rules)
-    returns)

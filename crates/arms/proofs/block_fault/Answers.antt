@@ -13,8 +13,7 @@ use Rattle.refusals.specs.Judge.{all_finite}
 use Rattle.arms.specs.Arm.{Arm, arm_fault}
 use Rattle.arms.specs.File.{blocks, number, arm_of, rest, arms, block_fault}
 use Rattle.arms.specs.Port.{fault_by, Told}
-use Rattle.arms.proofs.block_fault.Statement.{statement}
-use Rattle.arms.proofs.block_fault.Tie as tie
+use Rattle.arms.proofs.block_fault.Goals as goal
 
 module _ (l b : List ℕ) (held : zeros b ≡ false) {damaged : ℕ} (e : damaged ≡ judged b 0) where
   one-or-two : (damaged ≡ 0 → ⊥) → damaged ≡ block_fault (arms (blocks l)) b
@@ -43,26 +42,23 @@ module _ (b : List ℕ) {damaged : ℕ} (e : damaged ≡ judged b 0) (h : damage
   some : 0 < length b
   some = let l = whole in omega arith
 
-returns : tie.Need-returns
-returns c = search one-or-two
+pub returns-then-damaged-ne0 : goal.returns-then-damaged-ne0
+returns-then-damaged-ne0 c = search one-or-two
 
-rest-requires : tie.Need-rest-requires
-rest-requires c κs = search nearly-whole
+pub rest-requires : goal.rest-requires
+rest-requires c = search nearly-whole
 
-number-requires : tie.Need-number-requires
-number-requires c κs = search some
+pub number-requires : goal.number-requires
+number-requires c = search some
 
-finite-requires : tie.Need-finite-requires
-finite-requires c κs = search whole
+pub finite-requires : goal.finite-requires
+finite-requires c = search whole
 
-arm-fault-requires : tie.Need-arm-fault-requires
-arm-fault-requires c κs = (search rules, search told)
+pub arm_fault-requires : goal.arm_fault-requires
+arm_fault-requires c = (search rules, search told)
 
-returns-2 : tie.Need-returns-2
-returns-2 c = search of-arm
+pub returns-then-rest : goal.returns-then-rest
+returns-then-rest c = search of-arm
 
-returns-3 : tie.Need-returns-3
-returns-3 c = search three
-
-pub block-fault-spec : {M : Type 1} → statement M
-block-fault-spec = tie.close (tie.spec (λ c κs. search rules) returns rest-requires number-requires finite-requires arm-fault-requires returns-2 returns-3)
+pub returns : goal.returns
+returns c = search three

@@ -7,14 +7,7 @@ use native.Mathlib.Omega.{arith}
 use lib.ListN.{length, get_or, take, drop, set, length-set, length-drop}
 use lib.Seq.{take-add, take-suc, take-suc-set, drop-set-lt, drop-drop, get_or-drop}
 use Rattle.arms.specs.Port.{Moved}
-use Rattle.arms.proofs.move_down.Statement.{statement}
-use Rattle.arms.proofs.move_down.Tie as tie
-
-abbrev invariant-loop : tie.invariant-loop
-invariant-loop b₀ from to j₀ b j = (j ≤ 512) × (length b ≡ length b₀) × (take (to + j) b ≡ take to b₀ ++ take j (drop from b₀)) × (drop (from + j) b ≡ drop (from + j) b₀)
-
-abbrev decreases-loop : tie.decreases-loop
-decreases-loop b₀ from to j₀ b j = 512 - j
+use Rattle.arms.proofs.move_down.Goals as goal
 
 module _ (b₀ b : List ℕ) (from to j : ℕ) (h : j < 512) (low : to ≤ from) (fit : from + 512 ≤ length b₀) (long : length b ≡ length b₀)
     (e : take (to + j) b ≡ take to b₀ ++ take j (drop from b₀)) (d : drop (from + j) b ≡ drop (from + j) b₀) where
@@ -47,32 +40,14 @@ all b₀ b from to j h g long e d = let k : j ≡ 512 = omega arith in record { 
 stays : (b : List ℕ) (from to : ℕ) → to ≡ from → Moved from to b b
 stays b from to e = record { long = refl; there = rw e (take-add from 512 b); behind = refl }
 
-returns : tie.Need-returns invariant-loop decreases-loop
-returns c = search stays
+pub returns-then-to-from : goal.returns-then-to-from
+returns-then-to-from c = search stays
 
-loop-holds : tie.Need-loop-init invariant-loop decreases-loop
-loop-holds c = (omega arith, refl, search start, refl)
+pub loop-j-init : goal.loop-j-init
+loop-j-init c = (omega arith, refl, search start, refl)
 
-loop-again : tie.Need-loop-preserved invariant-loop decreases-loop
-loop-again c = (omega arith, simp length-set (omega arith), search taken, search kept)
+pub loop-j-preserved : goal.loop-j-preserved
+loop-j-preserved c = (omega arith, simp length-set (omega arith), search taken, search kept)
 
-returns-2 : tie.Need-returns-2 invariant-loop decreases-loop
-returns-2 c = search all
-
-pub move_down_spec : {M : Type 1} → statement M
-move_down_spec =
-    tie.close
-    (tie.spec
-    invariant-loop
-    decreases-loop
-    returns
-    loop-holds
-    (λ c. omega arith)
-    (λ c. omega arith)
-    (λ c. omega arith)
-    (λ c. omega arith)
-    (λ c. omega arith)
-    (λ c. omega arith)
-    loop-again
-    (λ c. omega arith)
-    returns-2)
+pub returns : goal.returns
+returns c = search all

@@ -7,8 +7,7 @@ use borrow.Author.Tests.{ltb-true, ltb-false, eq-eqb, ne_eqb}
 use lib.Dec.{leb, ltb, eqb}
 use lib.Ieee.{Float, nan, inf, binary64, prec, low, hid, ones, top, odd, of_fields, of_bits}
 use Rattle.float.specs.Number.{is_finite}
-use Rattle.arms.proofs.finite_word.Statement.{statement}
-use Rattle.arms.proofs.finite_word.Tie as tie
+use Rattle.arms.proofs.finite_word.Goals as goal
 
 odd-finite : (d : ℕ) (s : Bool) (q k l : ℕ) → is_finite (odd d s q k l) ≡ true
 unfolding odd
@@ -40,8 +39,5 @@ finite : (w : ℕ) → ltb (w % 9223372036854775808) 9218868437227405312 ≡ is_
 unfolding of_bits
 finite w = below w ∙ sym (fields (leb (top binary64) w) (w % top binary64 / hid binary64) (w % hid binary64))
 
-returns : tie.Need-returns
+pub returns : goal.returns
 returns c = finite c.args.word
-
-pub finite-word-spec : {M : Type 1} → statement M
-finite-word-spec = tie.close (tie.spec returns)

@@ -14,8 +14,7 @@ use Rattle.arms.specs.File.{blocks, flat, arms, judge, room, effect, refusal, af
 use Rattle.arms.specs.Agreement.{Valid}
 use Rattle.arms.proofs.Blocks.{first_is, then_is}
 use Rattle.arms.proofs.Calls.{bad, bad_kept, kept, done, own_next}
-use Rattle.arms.proofs.put.Statement.{statement}
-use Rattle.arms.proofs.put.Tie as tie
+use Rattle.arms.proofs.put.Goals as goal
 
 module _ (l : List ℕ) (n : ℕ) (numbers : List Float) {fault : ℕ} (e : fault ≡ judge [] (blocks l)) where
   bad-refused : (fault ≡ 0 → ⊥) → fault ≡ refusal (put (numbered n numbers)) l
@@ -58,31 +57,17 @@ all l n numbers f fine = go (eqb (length numbers) 39) refl (sym f ∙ fine)
     go true g z = eqb-true (length numbers) 39 g
     go false g z = absurd (omega arith)
 
-returns : tie.Need-returns
-returns c = (search bad-refused, search bad-left)
+pub returns-then-of_buffer-ne0 : goal.returns-then-of_buffer-ne0
+returns-then-of_buffer-ne0 c = record { result = search bad-refused; buffer = search bad-left }
 
-put-fault-requires : tie.Need-put-fault-requires
-put-fault-requires c κs = search valid
+pub put_fault-of_arm-requires : goal.put_fault-of_arm-requires
+put_fault-of_arm-requires c = search valid
 
-returns-2 : tie.Need-returns-2
-returns-2 c = (search arm-refused, search arm-left)
+pub returns-then-of_arm-ne0 : goal.returns-then-of_arm-ne0
+returns-then-of_arm-ne0 c = record { result = search arm-refused; buffer = search arm-left }
 
-put-first-requires : tie.Need-put-first-requires
-put-first-requires c κs = (search valid, search all)
+pub put_first-requires : goal.put_first-requires
+put_first-requires c = (search valid, search all)
 
-returns-3 : tie.Need-returns-3
-returns-3 c = (search placed, search placed-left)
-
-pub put_spec : {M : Type 1} → statement M
-put_spec =
-    tie.close
-    (tie.spec
-    (λ c κs. search rules)
-    (λ c. search rules)
-    returns
-    put-fault-requires
-    (λ c. search rules)
-    returns-2
-    put-first-requires
-    (λ c. search rules)
-    returns-3)
+pub returns : goal.returns
+returns c = record { result = search placed; buffer = search placed-left }

@@ -7,17 +7,11 @@ use borrow.Author.Rules.{rules}
 use lib.ListN.{take, drop}
 use Rattle.words.specs.Words.{zeros}
 use Rattle.arms.specs.File.{number_bytes, number_gap, rest}
-use Rattle.arms.proofs.rest.Statement.{statement}
-use Rattle.arms.proofs.rest.Tie as tie
+use Rattle.arms.proofs.rest.Goals as goal
 
 both : (b : List ℕ) {s t : Bool} → s ≡ zeros (take number_gap (drop number_bytes b)) → t ≡ zeros (take 184 (drop 320 b)) → s && t ≡ rest b
 unfolding rest
 both b e f = rw (e, f)
 
-returns : tie.Need-returns
+pub returns : goal.returns
 returns c = search both
-
-pub rest-spec : {M : Type 1} → statement M
-rest-spec =
-    tie.close
-    (tie.spec (λ c. search rules) (λ c. search rules) (λ c. search rules) (λ c κs. search rules) (λ c. search rules) (λ c. search rules) (λ c. search rules) (λ c κs. search rules) returns)

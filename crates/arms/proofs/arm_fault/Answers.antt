@@ -8,8 +8,7 @@ use borrow.Author.Tests.{eq-eqb, ne_eqb, not-true, not-false}
 use Rattle.arms.specs.Arm.{holds}
 use Rattle.arms.specs.File.{blocks, arms}
 use Rattle.arms.specs.Port.{fault_by, Told}
-use Rattle.arms.proofs.arm_fault.Statement.{statement}
-use Rattle.arms.proofs.arm_fault.Tie as tie
+use Rattle.arms.proofs.arm_fault.Goals as goal
 
 module _ (l : List ℕ) (n : ℕ) (finite : Bool) where
   not_finite : not finite ≡ true → 8 ≡ fault_by (arms (blocks l)) n finite
@@ -35,20 +34,17 @@ module _ (l : List ℕ) (n : ℕ) (finite : Bool) where
         unfolding fault_by
         none g = cc (not-false finite u, ne_eqb n 0 ne)
 
-returns : tie.Need-returns
-returns c = search not_finite
+pub returns-then-not-finite : goal.returns-then-not-finite
+returns-then-not-finite c = search not_finite
 
-returns-2 : tie.Need-returns-2
-returns-2 c = search numbered_0
+pub returns-then-number-eq0 : goal.returns-then-number-eq0
+returns-then-number-eq0 c = search numbered_0
 
-returns-3 : tie.Need-returns-3
-returns-3 c = search fresh
+pub returns-then-not-marked : goal.returns-then-not-marked
+returns-then-not-marked c = search fresh
 
-returns-4 : tie.Need-returns-4
-returns-4 c = search taken
+pub returns-then-held : goal.returns-then-held
+returns-then-held c = search taken
 
-returns-5 : tie.Need-returns-5
-returns-5 c = search none
-
-pub arm-fault-spec : {M : Type 1} → statement M
-arm-fault-spec = tie.close (tie.spec returns returns-2 returns-3 (λ c κs. search rules) returns-4 returns-5)
+pub returns-else-held : goal.returns-else-held
+returns-else-held c = search none

@@ -10,14 +10,7 @@ use lib.ListN.{length, get_or, take, drop, length-append, length-drop, drop_of_l
 use lib.Seq.{drop-cons, take_at, take_all, length-take-le}
 use Rattle.arms.specs.File.{little, eights}
 use Rattle.arms.proofs.Bytes.{length_little}
-use Rattle.arms.proofs.put_numbers.Statement.{statement}
-use Rattle.arms.proofs.put_numbers.Tie as tie
-
-abbrev invariant-loop : tie.invariant-loop
-invariant-loop b₀ numbers i₀ b i = (i ≤ length numbers) × (length b ≡ length b₀) × (take (8 * i) b ++ eights (drop i numbers) ≡ eights numbers)
-
-abbrev decreases-loop : tie.decreases-loop
-decreases-loop b₀ numbers i₀ b i = length numbers - i
+use Rattle.arms.proofs.put_numbers.Goals as goal
 
 module _ (b₀ : List ℕ) (numbers : List Float) (b : List ℕ) (i : ℕ) (fit : length b₀ ≡ 8 * length numbers) (long : length b ≡ length b₀)
     (e : take (8 * i) b ++ eights (drop i numbers) ≡ eights numbers) where
@@ -46,30 +39,12 @@ module _ (b₀ : List ℕ) (numbers : List Float) (b : List ℕ) (i : ℕ) (fit 
   unfolding eights
   all h g = rw (drop_of_length-le numbers h, take_all (8 * i) b (omega arith), append-nil) at e
 
-loop-again : tie.Need-loop-preserved invariant-loop decreases-loop
-loop-again c = (omega arith, search same, search one_more)
+pub loop-i-preserved : goal.loop-i-preserved
+loop-i-preserved c = (omega arith, search same, search one_more)
 
-returns : tie.Need-returns invariant-loop decreases-loop
+pub returns : goal.returns
 returns c = search all
 
-pub put-numbers-spec : {M : Type 1} → statement M
-put-numbers-spec =
-    tie.close
-    (tie.spec
-    invariant-loop
-    decreases-loop
-    (λ c. (omega arith, refl, refl))
-    (λ c. omega arith)
-    (λ c. omega arith)
-    (λ c. omega arith)
-    (λ c. omega arith)
-    (λ _ _. tt)
-    (λ c. omega arith)
-    (λ c. omega arith)
-    (λ c. omega arith)
-    (λ _ _. tt)
-    (λ c. omega arith)
-    (λ c. omega arith)
-    loop-again
-    (λ c. omega arith)
-    returns)
+pub loop-i-init : goal.loop-i-init
+loop-i-init c =
+    (omega arith, refl, refl)

@@ -15,8 +15,7 @@ use Rattle.arms.specs.File.{blocks, flat, block_of, room, effect}
 use Rattle.arms.specs.Agreement.{Valid}
 use Rattle.arms.specs.Port.{place, named}
 use Rattle.arms.proofs.Places.{valid_whole, valid_long, empty_place, room_there, no_room, replace_at}
-use Rattle.arms.proofs.put_first.Statement.{statement}
-use Rattle.arms.proofs.put_first.Tie as tie
+use Rattle.arms.proofs.put_first.Goals as goal
 
 module _ (l : List ℕ) (v : Valid l) {at : ℕ} (e : at ≡ 512 * place (named 0) (blocks l)) where
   e-empty : at ≡ 512 * place zeros (blocks l)
@@ -42,29 +41,14 @@ module _ (l : List ℕ) (v : Valid l) {at : ℕ} (e : at ≡ 512 * place (named 
     left : length l ≤ at → l ≡ cond (room (blocks l)) (flat (effect (put (numbered n numbers)) (blocks l))) l
     left h = rw (no_room l v e-empty h)
 
-place-of-requires : tie.Need-place-of-requires
-place-of-requires c κs = search valid_whole
+pub place_of-at-requires : goal.place_of-at-requires
+place_of-at-requires c = search valid_whole
 
-part-put-block-end : tie.Need-slice-bounds-put-block-end
-part-put-block-end c = search inside
+pub slice_bounds-put_block-end : goal.slice_bounds-put_block-end
+slice_bounds-put_block-end c = search inside
 
-returns : tie.Need-returns
-returns c = (search free, search written)
+pub returns-then-at-buffer : goal.returns-then-at-buffer
+returns-then-at-buffer c = record { result = search free; buffer = search written }
 
-returns-2 : tie.Need-returns-2
-returns-2 c = (search full, search left)
-
-pub put-first-spec : {M : Type 1} → statement M
-put-first-spec =
-    tie.close
-    (tie.spec
-    place-of-requires
-    (λ c. search rules)
-    (λ c. search rules)
-    (λ c. search rules)
-    part-put-block-end
-    (λ c κs. search rules)
-    (λ c. search rules)
-    returns
-    (λ c. search rules)
-    returns-2)
+pub returns : goal.returns
+returns c = record { result = search full; buffer = search left }

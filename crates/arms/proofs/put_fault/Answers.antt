@@ -11,8 +11,7 @@ use Rattle.refusals.specs.Judge.{all_finite}
 use Rattle.arms.specs.Arm.{Arm, numbered, arm_fault, put_fault}
 use Rattle.arms.specs.File.{blocks, arms}
 use Rattle.arms.specs.Port.{fault_by, Told}
-use Rattle.arms.proofs.put_fault.Statement.{statement}
-use Rattle.arms.proofs.put_fault.Tie as tie
+use Rattle.arms.proofs.put_fault.Goals as goal
 
 module _ (l : List ℕ) (n : ℕ) (numbers : List Float) where
   five : (length numbers ≡ 39 → ⊥) → 5 ≡ put_fault (arms (blocks l)) (numbered n numbers)
@@ -27,14 +26,11 @@ module _ (l : List ℕ) (n : ℕ) (numbers : List Float) where
 marked : (n : ℕ) (held : List Arm) → Told true n held
 marked n held = record { new = λ e. cc }
 
-returns : tie.Need-returns
-returns c = search five
+pub returns-then-arm-ne39 : goal.returns-then-arm-ne39
+returns-then-arm-ne39 c = search five
 
-arm-fault-requires : tie.Need-arm-fault-requires
-arm-fault-requires c κs = (search rules, search marked)
+pub arm_fault-requires : goal.arm_fault-requires
+arm_fault-requires c = (search rules, search marked)
 
-returns-2 : tie.Need-returns-2
-returns-2 c = search of-arm
-
-pub put-fault-spec : {M : Type 1} → statement M
-put-fault-spec = tie.close (tie.spec returns (λ c κs. search rules) arm-fault-requires returns-2)
+pub returns : goal.returns
+returns c = search of-arm

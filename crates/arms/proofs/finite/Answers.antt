@@ -13,14 +13,7 @@ use Rattle.float.specs.Number.{is_finite}
 use Rattle.refusals.specs.Judge.{first_not_finite, all_finite}
 use Rattle.words.specs.Words.{word, numbers}
 use Rattle.block.specs.Block.{arm}
-use Rattle.arms.proofs.finite.Statement.{statement}
-use Rattle.arms.proofs.finite.Tie as tie
-
-abbrev invariant-loop : tie.invariant-loop
-invariant-loop b i₀ i = (1 ≤ i) × (i ≤ 40) × (all_finite (numbers b i (40 - i)) ≡ all_finite (arm b))
-
-abbrev decreases-loop : tie.decreases-loop
-decreases-loop b i₀ i = 40 - i
+use Rattle.arms.proofs.finite.Goals as goal
 
 with-one : (x : Float) (l : List Float) → all_finite (x ∷ l) ≡ (is_finite x && all_finite l)
 unfolding first_not_finite
@@ -48,26 +41,15 @@ module _ (b : List ℕ) (i : ℕ) (e : all_finite (numbers b i (40 - i)) ≡ all
   unfolding numbers first_not_finite
   end h = let k : 40 - i ≡ 0 = omega arith in rw k at e
 
-returns : tie.Need-returns invariant-loop decreases-loop
-returns c = search stop
+pub returns-then-not-finite_word : goal.returns-then-not-finite_word
+returns-then-not-finite_word c = search stop
 
-loop-again : tie.Need-loop-preserved invariant-loop decreases-loop
-loop-again c = (omega arith, omega arith, search on)
+pub loop-i-preserved : goal.loop-i-preserved
+loop-i-preserved c = (omega arith, omega arith, search on)
 
-returns-2 : tie.Need-returns-2 invariant-loop decreases-loop
-returns-2 c = search end
+pub returns : goal.returns
+returns c = search end
 
-pub finite-spec : {M : Type 1} → statement M
-finite-spec =
-    tie.close
-    (tie.spec
-    invariant-loop
-    decreases-loop
-    (λ c. (omega arith, omega arith, refl))
-    (λ c κs. omega arith)
-    (λ c κs. search rules)
-    returns
-    (λ c. omega arith)
-    (λ c. omega arith)
-    loop-again
-    returns-2)
+pub loop-i-init : goal.loop-i-init
+loop-i-init c =
+    (omega arith, omega arith, refl)

@@ -15,23 +15,8 @@ use Rattle.arms.specs.Port.{Moved, Fronted}
 use Rattle.arms.proofs.Parts.{blocks_none}
 use Rattle.arms.proofs.Places.{valid_whole, empty_at}
 use Rattle.arms.proofs.Fronts.{front_next}
-use Rattle.arms.proofs.to_front.Statement.{statement}
-use Rattle.arms.proofs.to_front.Tie as tie
-
-record State (b₀ b : List ℕ) (w at : ℕ) : Type 0 where
-  pub whole : length b₀ % 512 ≡ 0
-  pub step : at % 512 ≡ 0
-  pub within : at ≤ length b₀
-  pub low : w ≤ at
-  pub long : length b ≡ length b₀
-  pub fronts : take w b ≡ flat (front (blocks (take at b₀)))
-  pub behind : drop at b ≡ drop at b₀
-
-abbrev invariant-loop : tie.invariant-loop
-invariant-loop buffer₀ behind₀ at₀ buffer behind at = State buffer₀ buffer behind at
-
-abbrev decreases-loop : tie.decreases-loop
-decreases-loop buffer₀ behind₀ at₀ buffer behind at = length buffer₀ - at
+use Rattle.arms.proofs.to_front.Goals as goal
+use Rattle.arms.proofs.to_front.Invariants.{State}
 
 start : (b : List ℕ) → Valid b → State b b 0 0
 unfolding front flat
@@ -96,38 +81,21 @@ all b₀ b w at s h =
     let g = s.within in
     record { within = omega arith; long = s.long; fronts = rw (take_all at b₀ (omega arith)) at s.fronts }
 
-number-requires : tie.Need-number-requires invariant-loop decreases-loop
-number-requires c κs = search some
+pub number-requires : goal.number-requires
+number-requires c = search some
 
-loop-again : tie.Need-loop-preserved invariant-loop decreases-loop
-loop-again c = search skipped
+pub loop-from-preserved-then-number-eq0 : goal.loop-from-preserved-then-number-eq0
+loop-from-preserved-then-number-eq0 c = search skipped
 
-move-down-requires : tie.Need-move-down-requires invariant-loop decreases-loop
-move-down-requires c κs = (omega arith, omega arith)
+pub move_down-requires : goal.move_down-requires
+move_down-requires c = (omega arith, omega arith)
 
-loop-again-2 : tie.Need-loop-preserved-2 invariant-loop decreases-loop
-loop-again-2 c = search moved
+pub loop-from-preserved : goal.loop-from-preserved
+loop-from-preserved c = search moved
 
-returns : tie.Need-returns invariant-loop decreases-loop
+pub returns : goal.returns
 returns c = search all
 
-pub to-front-spec : {M : Type 1} → statement M
-to-front-spec =
-    tie.close
-    (tie.spec
-    invariant-loop
-    decreases-loop
-    (λ c. search start)
-    (λ c. omega arith)
-    (λ c. omega arith)
-    (λ c. omega arith)
-    (λ c. omega arith)
-    number-requires
-    (λ c. omega arith)
-    loop-again
-    move-down-requires
-    (λ c. omega arith)
-    (λ c. omega arith)
-    loop-again-2
-    (λ c. omega arith)
-    returns)
+pub loop-from-init : goal.loop-from-init
+loop-from-init c =
+    search start

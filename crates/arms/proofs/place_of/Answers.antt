@@ -9,14 +9,7 @@ use lib.Seq.{length-take-le}
 use Rattle.arms.specs.File.{blocks, number}
 use Rattle.arms.specs.Port.{place, named}
 use Rattle.arms.proofs.Places.{place_here, place_on, place_none}
-use Rattle.arms.proofs.place_of.Statement.{statement}
-use Rattle.arms.proofs.place_of.Tie as tie
-
-abbrev invariant-loop : tie.invariant-loop
-invariant-loop buffer n at₀ at = (at ≤ length buffer) × (at % 512 ≡ 0) × (512 * place (named n) (blocks (drop at buffer)) + at ≡ 512 * place (named n) (blocks buffer))
-
-abbrev decreases-loop : tie.decreases-loop
-decreases-loop buffer n at₀ at = length buffer - at
+use Rattle.arms.proofs.place_of.Goals as goal
 
 start : (l : List ℕ) (n : ℕ) → 512 * place (named n) (blocks (drop 0 l)) + 0 ≡ 512 * place (named n) (blocks l)
 start l n = omega arith
@@ -38,31 +31,18 @@ module _ (l : List ℕ) (n at : ℕ) (inv : 512 * place (named n) (blocks (drop 
 end : (l : List ℕ) (n at : ℕ) → 512 * place (named n) (blocks (drop at l)) + at ≡ 512 * place (named n) (blocks l) → at ≤ length l → length l ≤ at → length l ≡ 512 * place (named n) (blocks l)
 end l n at inv g h = let k : length l ≡ at = omega arith in k ∙ place_none (named n) l at inv h
 
-number-requires : tie.Need-number-requires invariant-loop decreases-loop
-number-requires c κs = search long
+pub number-requires : goal.number-requires
+number-requires c = search long
 
-returns : tie.Need-returns invariant-loop decreases-loop
-returns c = search here
+pub returns-then-number-n : goal.returns-then-number-n
+returns-then-number-n c = search here
 
-loop-again : tie.Need-loop-preserved invariant-loop decreases-loop
-loop-again c = (omega arith, omega arith, search on)
+pub loop-place-preserved : goal.loop-place-preserved
+loop-place-preserved c = (omega arith, omega arith, search on)
 
-returns-2 : tie.Need-returns-2 invariant-loop decreases-loop
-returns-2 c = search end
+pub returns : goal.returns
+returns c = search end
 
-pub place-of-spec : {M : Type 1} → statement M
-place-of-spec =
-    tie.close
-    (tie.spec
-    invariant-loop
-    decreases-loop
-    (λ c. (omega arith, refl, search start))
-    (λ c. omega arith)
-    (λ c. omega arith)
-    (λ c. omega arith)
-    (λ c. omega arith)
-    number-requires
-    returns
-    (λ c. omega arith)
-    loop-again
-    returns-2)
+pub loop-place-init : goal.loop-place-init
+loop-place-init c =
+    (omega arith, refl, search start)

@@ -17,8 +17,7 @@ use Rattle.arms.proofs.Agree.{good_of}
 use Rattle.arms.proofs.Places.{valid_long}
 use Rattle.arms.proofs.Fronts.{flat_append}
 use Rattle.arms.proofs.Calls.{bad, bad_kept, done, own_next}
-use Rattle.arms.proofs.compact.Statement.{statement}
-use Rattle.arms.proofs.compact.Tie as tie
+use Rattle.arms.proofs.compact.Goals as goal
 
 module _ (l : List ℕ) {fault : ℕ} (e : fault ≡ judge [] (blocks l)) where
   bad-refused : (fault ≡ 0 → ⊥) → fault ≡ refusal compact l
@@ -52,26 +51,11 @@ module _ (l : List ℕ) {fault : ℕ} (e : fault ≡ judge [] (blocks l)) where
         let out : flat (front (blocks l) ++ replicate n empty) ≡ take w b ++ (m ++ []) = rw (flat_append (front (blocks l)) (replicate n empty), flat_empty n, append-nil m, e-m, s, k, fr.fronts) in
         rw (p, done compact l none, out)
 
-returns : tie.Need-returns
-returns c = (search bad-refused, search bad-left)
+pub returns-then-fault-ne0 : goal.returns-then-fault-ne0
+returns-then-fault-ne0 c = record { result = search bad-refused; buffer = search bad-left }
 
-to-front-requires : tie.Need-to-front-requires
-to-front-requires c κs = search valid
+pub to_front-behind-requires : goal.to_front-behind-requires
+to_front-behind-requires c = search valid
 
-returns-2 : tie.Need-returns-2
-returns-2 c = (search none, search packed)
-
-pub compact-spec : {M : Type 1} → statement M
-compact-spec =
-    tie.close
-    (tie.spec
-    (λ c κs. search rules)
-    (λ c. search rules)
-    returns
-    to-front-requires
-    (λ c. search rules)
-    (λ c. search rules)
-    (λ c. search rules)
-    (λ c κs. search rules)
-    (λ c. search rules)
-    returns-2)
+pub returns : goal.returns
+returns c = record { result = search none; buffer = search packed }

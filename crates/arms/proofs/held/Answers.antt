@@ -12,8 +12,7 @@ use Rattle.arms.specs.File.{blocks, arms, has}
 use Rattle.arms.specs.Agreement.{Valid}
 use Rattle.arms.specs.Port.{place}
 use Rattle.arms.proofs.Places.{there_held, not_held}
-use Rattle.arms.proofs.held.Statement.{statement}
-use Rattle.arms.proofs.held.Tie as tie
+use Rattle.arms.proofs.held.Goals as goal
 
 met : (l : List ℕ) (n : ℕ) → Valid l → {at : ℕ} → at ≡ 512 * place (has n) (blocks l) → ltb at (length l) ≡ holds n (arms (blocks l))
 met l n v {at} e = go (ltb at (length l)) refl
@@ -22,8 +21,5 @@ met l n v {at} e = go (ltb at (length l)) refl
     go true h = sym (there_held l v n e (ltb-true at (length l) h))
     go false h = sym (not_held l v n e (ltb-false at (length l) h))
 
-returns : tie.Need-returns
+pub returns : goal.returns
 returns c = search met
-
-pub held_spec : {M : Type 1} → statement M
-held_spec = tie.close (tie.spec (λ c κs. search rules) returns)

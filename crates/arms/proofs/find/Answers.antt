@@ -13,8 +13,7 @@ use Rattle.arms.specs.Agreement.{Valid}
 use Rattle.arms.specs.Port.{place}
 use Rattle.arms.proofs.Places.{valid_long, there_held, not_held, pick_at}
 use Rattle.arms.proofs.Calls.{bad, own_next, gives_none, gives_arm}
-use Rattle.arms.proofs.find.Statement.{statement}
-use Rattle.arms.proofs.find.Tie as tie
+use Rattle.arms.proofs.find.Goals as goal
 
 module _ (l : List ℕ) (n : ℕ) {fault : ℕ} (e : fault ≡ judge [] (blocks l)) where
   bad-refused : (fault ≡ 0 → ⊥) → fault ≡ refusal (find n) l
@@ -47,29 +46,14 @@ module _ (l : List ℕ) (n : ℕ) {fault : ℕ} (e : fault ≡ judge [] (blocks 
       none-gives : length l ≤ at → zeros_39 ≡ (gives (find n) l).arm
       none-gives h = gives_none n l (none h) (λ z. omega arith)
 
-returns : tie.Need-returns
-returns c = (search bad-refused, search bad-gives)
+pub returns-then-fault-ne0 : goal.returns-then-fault-ne0
+returns-then-fault-ne0 c = record { result = search bad-refused; arm = search bad-gives }
 
-part-arm-end : tie.Need-slice-bounds-arm-end
-part-arm-end c = search inside
+pub slice_bounds-arm-end : goal.slice_bounds-arm-end
+slice_bounds-arm-end c = search inside
 
-returns-2 : tie.Need-returns-2
-returns-2 c = (search found, search found-arm)
+pub returns-then-at-buffer : goal.returns-then-at-buffer
+returns-then-at-buffer c = record { result = search found; arm = search found-arm }
 
-returns-3 : tie.Need-returns-3
-returns-3 c = (search none, search none-gives)
-
-pub find_spec : {M : Type 1} → statement M
-find_spec =
-    tie.close
-    (tie.spec
-    (λ c κs. search rules)
-    returns
-    (λ c κs. search rules)
-    (λ c. search rules)
-    (λ c. search rules)
-    (λ c. search rules)
-    part-arm-end
-    (λ c κs. search rules)
-    returns-2
-    returns-3)
+pub returns : goal.returns
+returns c = record { result = search none; arm = search none-gives }

@@ -1,0 +1,16 @@
+-- The first j bytes are copied, and the bytes still to be copied are as they were.
+use Prim.Native.Nat.{ℕ, suc, ◌+◌, ◌-◌, ◌≤◌, ◌<◌}
+use mathlib.Core.Path.{◌≡◌, refl, sym, ap, ◌∙◌}
+use mathlib.Core.List.{List, [], ◌∷◌, ◌++◌, append_assoc, append-nil}
+use native.Mathlib.Numerals.{add-one}
+use native.Mathlib.Omega.{arith}
+use lib.ListN.{length, get_or, take, drop, set, length-set, length-drop}
+use lib.Seq.{take-add, take-suc, take-suc-set, drop-set-lt, drop-drop, get_or-drop}
+use Rattle.arms.specs.Port.{Moved}
+use Rattle.arms.proofs.move_down.Given as goal
+
+abbrev pub invariant-loop-j : goal.invariant-loop-j
+invariant-loop-j l = (l.j ≤ 512) × (length l.b ≡ length l.initial.b) × (take (l.to + l.j) l.b ≡ take l.to l.initial.b ++ take l.j (drop l.from l.initial.b)) × (drop (l.from + l.j) l.b ≡ drop (l.from + l.j) l.initial.b)
+
+abbrev pub decreases-loop-j : goal.decreases-loop-j
+decreases-loop-j l = 512 - l.j
