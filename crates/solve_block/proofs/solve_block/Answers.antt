@@ -13,8 +13,7 @@ use Rattle.block.proofs.Whole.{whole}
 use Rattle.solve.specs.Solve.{answers, solve}
 use Rattle.solve.specs.declared.Solved.{Solved}
 use Rattle.solve_block.specs.SolveBlock.{solve_block, block_answers}
-use Rattle.solve_block.proofs.solve_block.Statement.{statement}
-use Rattle.solve_block.proofs.solve_block.Tie as tie
+use Rattle.solve_block.proofs.solve_block.Goals as goal
 
 module _ (bytes : List ℕ) {refused : ℕ} (e : refused ≡ refusal bytes) where
   whole_block : refused ≡ 0 → 512 ≤ length bytes
@@ -51,37 +50,20 @@ module _ (bytes : List ℕ) {refused : ℕ} (e : refused ≡ refusal bytes) wher
       flags-solved : {f' : List ℕ} → f' ≡ flagged (answers fam n m p limits) a f → f' ≡ flagged (block_answers bytes limits) a f
       flags-solved w = rw same at w
 
-returns : tie.Need-returns
-returns c = (search result-refused, (search angles-refused, search flags-refused))
+pub returns-then-refused-ne0 : goal.returns-then-refused-ne0
+returns-then-refused-ne0 c = record { result = search result-refused; angles = search angles-refused; flags = search flags-refused }
 
-family-requires : tie.Need-family-requires
-family-requires c κs = search whole_block
+pub family-family-requires : goal.family-family-requires
+family-family-requires c = search whole_block
 
-samples-requires : tie.Need-samples-requires
-samples-requires c κs = search whole_block
+pub samples-n-requires : goal.samples-n-requires
+samples-n-requires c = search whole_block
 
-arm-requires : tie.Need-arm-requires
-arm-requires c κs = search whole_block
+pub arm-arm-requires : goal.arm-arm-requires
+arm-arm-requires c = search whole_block
 
-pose-requires : tie.Need-pose-requires
-pose-requires c κs = search whole_block
+pub pose-pose-requires : goal.pose-pose-requires
+pose-pose-requires c = search whole_block
 
-returns-2 : tie.Need-returns-2
-returns-2 c = (search result-solved, (search angles-solved, search flags-solved))
-
-pub solve-block-spec : {M : Type 1} → statement M
-solve-block-spec =
-    tie.close
-    (tie.spec
-    (λ _ _. tt)
-    returns
-    family-requires
-    samples-requires
-    arm-requires
-    pose-requires
-    (λ c. search rules)
-    (λ c. search rules)
-    (λ _ _. tt)
-    (λ c. search rules)
-    (λ c. search rules)
-    returns-2)
+pub returns : goal.returns
+returns c = record { result = search result-solved; angles = search angles-solved; flags = search flags-solved }
