@@ -18,8 +18,7 @@ use Rattle.one_answer.specs.OneAnswer.{one_refusal, zeros, Member, Gives}
 use Rattle.one_answer.specs.First.{head, first_allowed}
 use Rattle.one_answer.specs.declared.Maybe.{Maybe}
 use Rattle.one_answer.specs.declared.One.{One}
-use Rattle.one_answer.proofs.solve_one.Statement.{statement}
-use Rattle.one_answer.proofs.solve_one.Tie as tie
+use Rattle.one_answer.proofs.solve_one.Goals as goal
 
 -- a list by its first answer: refusal 12, or a member
 abbrev Chosen : List Answer → Maybe → ℕ → Type 0
@@ -88,17 +87,14 @@ module _ (family n : ℕ) (arm pose limits : List Float) {first : ℕ} (e : firs
       none_found : m.found ≡ false → Gives family n arm pose limits (record { refusal = 12; answer = m.answer })
       none_found t = gives (rw t)
 
-returns : tie.Need-returns
-returns c = search by_refusal
+pub returns-then-first-ne0 : goal.returns-then-first-ne0
+returns-then-first-ne0 c = search by_refusal
 
-find-one-requires : tie.Need-find-one-requires
-find-one-requires c κs = (search family_low, search family_high, search arm_fits, search pose_fits, search limits-accepted)
+pub find_one-one-requires : goal.find_one-one-requires
+find_one-one-requires c = (search family_low, search family_high, search arm_fits, search pose_fits, search limits-accepted)
 
-returns-2 : tie.Need-returns-2
-returns-2 c = search one_found
+pub returns-then-one : goal.returns-then-one
+returns-then-one c = search one_found
 
-returns-3 : tie.Need-returns-3
-returns-3 c = search none_found
-
-pub solve-one-spec : {M : Type 1} → statement M
-solve-one-spec = tie.close (tie.spec (λ c κs. search rules) (λ c κs. search rules) returns find-one-requires returns-2 returns-3)
+pub returns-else-one : goal.returns-else-one
+returns-else-one c = search none_found

@@ -16,14 +16,7 @@ use Rattle.one_answer.specs.OneAnswer.{zeros}
 use Rattle.one_answer.specs.First.{first_allowed}
 use Rattle.one_answer.specs.declared.Maybe.{Maybe}
 use Rattle.one_answer.proofs.Firsts as Firsts
-use Rattle.one_answer.proofs.first_allowed.Statement.{statement}
-use Rattle.one_answer.proofs.first_allowed.Tie as tie
-
-abbrev invariant-loop : tie.invariant-loop
-invariant-loop l arm pose numbers bytes limits k₀ k = (k ≤ l.answers) × (first_allowed limits (drop k (listed l arm pose numbers bytes)) ≡ first_allowed limits (listed l arm pose numbers bytes))
-
-abbrev decreases-loop : tie.decreases-loop
-decreases-loop l arm pose numbers bytes limits k₀ k = l.answers - k
+use Rattle.one_answer.proofs.first_allowed.Goals as goal
 
 module _ (l : FullList) (arm pose numbers : List Float) (bytes : List ℕ) (limits : List Float) (s : Sound l arm pose numbers bytes) (k : ℕ)
     (e : first_allowed limits (drop k (listed l arm pose numbers bytes)) ≡ first_allowed limits (listed l arm pose numbers bytes)) where
@@ -43,33 +36,17 @@ module _ (l : FullList) (arm pose numbers : List Float) (bytes : List ℕ) (limi
 start : (limits : List Float) (all : List Answer) → first_allowed limits (drop 0 all) ≡ first_allowed limits all
 start limits all = refl
 
-loop-holds : tie.Need-loop-init invariant-loop decreases-loop
-loop-holds c = (omega arith, search start)
+pub loop-k-init : goal.loop-k-init
+loop-k-init c = (omega arith, search start)
 
-answer-requires : tie.Need-answer-requires invariant-loop decreases-loop
-answer-requires c κs = (search rules, omega arith)
+pub answer-q-requires : goal.answer-q-requires
+answer-q-requires c = (search rules, omega arith)
 
-returns : tie.Need-returns invariant-loop decreases-loop
-returns c = search here
+pub returns-then-inside : goal.returns-then-inside
+returns-then-inside c = search here
 
-loop-again : tie.Need-loop-preserved invariant-loop decreases-loop
-loop-again c = (omega arith, search on)
+pub loop-k-preserved : goal.loop-k-preserved
+loop-k-preserved c = (omega arith, search on)
 
-returns-2 : tie.Need-returns-2 invariant-loop decreases-loop
-returns-2 c = search none
-
-pub first-allowed-spec : {M : Type 1} → statement M
-first-allowed-spec =
-    tie.close
-    (tie.spec
-    invariant-loop
-    decreases-loop
-    loop-holds
-    answer-requires
-    (λ c κs. search rules)
-    returns
-    (λ c. omega arith)
-    (λ c. omega arith)
-    loop-again
-    (λ c κs. search rules)
-    returns-2)
+pub returns : goal.returns
+returns c = search none

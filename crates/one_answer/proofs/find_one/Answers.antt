@@ -13,8 +13,7 @@ use Rattle.full_list.specs.declared.FullList.{FullList}
 use Rattle.full_list.proofs.Laws.{closed}
 use Rattle.one_answer.specs.First.{first_allowed}
 use Rattle.one_answer.specs.declared.Maybe.{Maybe}
-use Rattle.one_answer.proofs.find_one.Statement.{statement}
-use Rattle.one_answer.proofs.find_one.Tie as tie
+use Rattle.one_answer.proofs.find_one.Goals as goal
 
 module _ (family n : ℕ) (arm pose limits : List Float) {numbers : List Float} {bytes : List ℕ} {l : FullList} {m : Maybe}
     (e : m ≡ first_allowed limits (listed l arm pose numbers bytes)) where
@@ -29,39 +28,20 @@ module _ (family n : ℕ) (arm pose limits : List Float) {numbers : List Float} 
 five : (family : ℕ) → family ≤ 6 → (family ≡ 6 → ⊥) → family ≤ 5
 five family h other = omega arith
 
-search-requires : tie.Need-search-requires
-search-requires c κs = (search rules, search rules, search rules, search rules)
+pub search-list-requires : goal.search-list-requires
+search-list-requires c = (search rules, search rules, search rules, search rules)
 
-first-allowed-requires : tie.Need-first-allowed-requires
-first-allowed-requires c κs = (search rules, search rules)
+pub first_allowed-requires : goal.first_allowed-requires
+first_allowed-requires c = (search rules, search rules)
 
-returns : tie.Need-returns
-returns c = search searched
+pub returns-then-family-eq6 : goal.returns-then-family-eq6
+returns-then-family-eq6 c = search searched
 
-list-of-eight-requires : tie.Need-list-of-eight-requires
-list-of-eight-requires c κs = (search rules, search five, search rules, search rules, search rules, search rules)
+pub list_of_eight-list-requires : goal.list_of_eight-list-requires
+list_of_eight-list-requires c = (search rules, search five, search rules, search rules, search rules, search rules)
 
-first-allowed-requires-2 : tie.Need-first-allowed-requires-2
-first-allowed-requires-2 c κs = (search rules, search rules)
+pub first_allowed-requires-2 : goal.first_allowed-requires-2
+first_allowed-requires-2 c = (search rules, search rules)
 
-returns-2 : tie.Need-returns-2
-returns-2 c = search kept
-
-pub find-one-spec : {M : Type 1} → statement M
-find-one-spec =
-    tie.close
-    (tie.spec
-    (λ c. search rules)
-    (λ c. search rules)
-    search-requires
-    (λ c. search rules)
-    (λ c. search rules)
-    first-allowed-requires
-    returns
-    (λ c. search rules)
-    (λ c. search rules)
-    list-of-eight-requires
-    (λ c. search rules)
-    (λ c. search rules)
-    first-allowed-requires-2
-    returns-2)
+pub returns : goal.returns
+returns c = search kept
