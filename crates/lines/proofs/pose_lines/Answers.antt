@@ -15,8 +15,7 @@ use Rattle.solve_block.proofs.Counted.{counted}
 use Rattle.lines.specs.Lines.{pose_lines}
 use Rattle.text.proofs.Laws.{both}
 use Rattle.lines.proofs.Printed.{printed}
-use Rattle.lines.proofs.pose_lines.Statement.{statement}
-use Rattle.lines.proofs.pose_lines.Tie as tie
+use Rattle.lines.proofs.pose_lines.Goals as goal
 
 space : (a : List Float) (f : List ℕ) → length a ≡ 6144 → length f ≡ 1024 → room a f ≡ 1024
 unfolding room_of
@@ -43,17 +42,5 @@ met bytes place l a f {k = k} a-long f-long e-s e-a e-f p e-k q =
     let q' = rw (e-a, e-f, printed (block_answers bytes l) a f {n = k} a-long f-long count) at q in
     both (rw e at p) q'
 
-returns : tie.Need-returns
-returns c = (search met, search rules)
-
-pub pose-lines-spec : {M : Type 1} → statement M
-pose-lines-spec =
-    tie.close
-    (tie.spec
-    (λ _ _. tt)
-    (λ _ _. tt)
-    (λ _ _. tt)
-    (λ c κs. search rules)
-    (λ c. search rules)
-    (λ c. search rules)
-    returns)
+pub returns : goal.returns
+returns c = record { put = search met; upper_bound = search rules }

@@ -9,8 +9,7 @@ use Rattle.text.specs.Text.{Put}
 use Rattle.text.specs.Lists.{head}
 use Rattle.text.proofs.Laws.{nothing}
 use Rattle.lines.specs.Lines.{limits_lines}
-use Rattle.lines.proofs.limits_lines.Statement.{statement}
-use Rattle.lines.proofs.limits_lines.Tie as tie
+use Rattle.lines.proofs.limits_lines.Goals as goal
 
 module _ (bytes : List ℕ) (place : ℕ) {refused : ℕ} (e : refused ≡ limits_refusal bytes) where
   no_line : (out : List ℕ) → refused ≡ 0 → Put (limits_lines bytes place) 0 out out 0
@@ -21,11 +20,8 @@ module _ (bytes : List ℕ) (place : ℕ) {refused : ℕ} (e : refused ≡ limit
   unfolding limits_lines
   its_line h p = rw (← e, ne_eqb refused 0 h) p
 
-returns : tie.Need-returns
-returns c = (search no_line, search rules)
+pub returns-then-refused-eq0 : goal.returns-then-refused-eq0
+returns-then-refused-eq0 c = record { put = search no_line; upper_bound = search rules }
 
-returns-2 : tie.Need-returns-2
-returns-2 c = (search its_line, search rules)
-
-pub limits-lines-spec : {M : Type 1} → statement M
-limits-lines-spec = tie.close (tie.spec (λ _ _. tt) returns (λ _ _. tt) returns-2)
+pub returns : goal.returns
+returns c = record { put = search its_line; upper_bound = search rules }
