@@ -13,8 +13,7 @@ use Rattle.answers.specs.declared.Answer.{Answer}
 use Rattle.answers.proofs.One as One
 use Rattle.track.specs.Sevens.{seven, parts, sevens}
 use Rattle.track.proofs.SevenRows.{seven_good, seven_parts}
-use Rattle.track.proofs.sevens.put_seven.Statement.{statement}
-use Rattle.track.proofs.sevens.put_seven.Tie as tie
+use Rattle.track.proofs.sevens.put_seven.Goals as goal
 
 module _ (q : Answer) (joint : ℕ) (angle : Float) (a : List Float) (f : List ℕ) (j : joint ≤ 6) where
   few-angles : length a < 7 → WroteOf (sevens joint angle) (q ∷ []) a f a f 1
@@ -32,14 +31,11 @@ module _ (q : Answer) (joint : ℕ) (angle : Float) (a : List Float) (f : List �
   fits : {a' row : List Float} {b : ℕ} → 7 ≤ length a → 1 ≤ length f → row ≡ seven joint angle q → a' ≡ sets a 0 (parts row) → b ≡ flag q.is_ls → WroteOf (sevens joint angle) (q ∷ []) a f a' (set f 0 b) 1
   fits h h' e-r e e' = One.fits (sevens joint angle) (seven_good joint angle j) q a f (some-room h h') h h' (e ∙ ap (λ (r : List Float). sets a 0 (parts r)) e-r ∙ ap (sets a 0) (seven_parts joint angle q j)) e'
 
-returns : tie.Need-returns
-returns c = search few-angles
+pub returns-then-angles-lt7 : goal.returns-then-angles-lt7
+returns-then-angles-lt7 c = search few-angles
 
-returns-2 : tie.Need-returns-2
-returns-2 c = search few-flags
+pub returns-then-flags-lt1 : goal.returns-then-flags-lt1
+returns-then-flags-lt1 c = search few-flags
 
-returns-3 : tie.Need-returns-3
-returns-3 c = search fits
-
-pub put-seven-spec : {M : Type 1} → statement M
-put-seven-spec = tie.close (tie.spec returns returns-2 (λ c κs. search rules) (λ c κs. search rules) (λ c κs. search rules) (λ c. search rules) (λ c. search rules) (λ c. search rules) returns-3)
+pub returns : goal.returns
+returns c = search fits

@@ -6,8 +6,7 @@ use native.Mathlib.Omega.{arith}
 use lib.Ieee.{Float}
 use Rattle.answers.specs.declared.Answer.{Answer}
 use Rattle.track.specs.Sevens.{seven}
-use Rattle.track.proofs.sevens.seven.Statement.{statement}
-use Rattle.track.proofs.sevens.seven.Tie as tie
+use Rattle.track.proofs.sevens.seven.Goals as goal
 
 module _ (q : Answer) (joint : ℕ) (angle : Float) where
   first : joint ≡ 0 → angle ∷ q.q1 ∷ q.q2 ∷ q.q3 ∷ q.q4 ∷ q.q5 ∷ q.q6 ∷ [] ≡ seven joint angle q
@@ -38,26 +37,23 @@ module _ (q : Answer) (joint : ℕ) (angle : Float) where
   unfolding seven
   seventh h h0 h1 h2 h3 h4 h5 = let e : joint ≡ 6 = omega arith in rw e
 
-returns : tie.Need-returns
-returns c = search first
+pub returns-in-0 : goal.returns-in-0
+returns-in-0 c = search first
 
-returns-2 : tie.Need-returns-2
-returns-2 c = search second
+pub returns-in-1 : goal.returns-in-1
+returns-in-1 c = search second
 
-returns-3 : tie.Need-returns-3
-returns-3 c = search third
+pub returns-in-2 : goal.returns-in-2
+returns-in-2 c = search third
 
-returns-4 : tie.Need-returns-4
-returns-4 c = search fourth
+pub returns-in-3 : goal.returns-in-3
+returns-in-3 c = search fourth
 
-returns-5 : tie.Need-returns-5
-returns-5 c = search fifth
+pub returns-in-4 : goal.returns-in-4
+returns-in-4 c = search fifth
 
-returns-6 : tie.Need-returns-6
-returns-6 c = search sixth
+pub returns-in-5 : goal.returns-in-5
+returns-in-5 c = search sixth
 
-returns-7 : tie.Need-returns-7
-returns-7 c = search seventh
-
-pub seven_spec : {M : Type 1} → statement M
-seven_spec = tie.close (tie.spec returns returns-2 returns-3 returns-4 returns-5 returns-6 returns-7)
+pub returns-in_default : goal.returns-in_default
+returns-in_default c = search seventh

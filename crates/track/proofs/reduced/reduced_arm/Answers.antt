@@ -8,8 +8,7 @@ use Rattle.linear.specs.Matrix.{Matrix, identity}
 use Rattle.partial.specs.Partial.{forward_kinematics_partial}
 use Rattle.partial.specs.declared.Partial.{Partial}
 use Rattle.track.specs.Reduced.{to_numbers, reduced_arm}
-use Rattle.track.proofs.reduced.reduced_arm.Statement.{statement}
-use Rattle.track.proofs.reduced.reduced_arm.Tie as tie
+use Rattle.track.proofs.reduced.reduced_arm.Goals as goal
 
 met : (arm : List Float) (joint : ℕ) (angle : Float) {m : Matrix} {left : Partial} {l : List Float}
     → m ≡ identity
@@ -19,8 +18,5 @@ met : (arm : List Float) (joint : ℕ) (angle : Float) {m : Matrix} {left : Part
 unfolding reduced_arm
 met arm joint angle e e-p e-l = rw (← e, ← e-p) e-l
 
-returns : tie.Need-returns
+pub returns : goal.returns
 returns c = search met
-
-pub reduced-arm-spec : {M : Type 1} → statement M
-reduced-arm-spec = tie.close (tie.spec (λ c κs. search rules) (λ c κs. search rules) (λ c κs. search rules) returns)

@@ -5,8 +5,7 @@ use mathlib.Core.List.{List}
 use borrow.Author.Rules.{rules}
 use lib.Ieee.{Float}
 use Rattle.refusals.specs.Judge.{all_finite}
-use Rattle.track.proofs.both_finite.Statement.{statement}
-use Rattle.track.proofs.both_finite.Tie as tie
+use Rattle.track.proofs.both_finite.Goals as goal
 
 module _ (a b : List Float) {x : Bool} (e : x ≡ all_finite a) where
   second : {y : Bool} → x ≡ true → y ≡ all_finite b → y ≡ all_finite a && all_finite b
@@ -15,11 +14,8 @@ module _ (a b : List Float) {x : Bool} (e : x ≡ all_finite a) where
   no : x ≡ false → false ≡ all_finite a && all_finite b
   no t = rw (← e, t)
 
-returns : tie.Need-returns
-returns c = search second
+pub returns-then-all_finite : goal.returns-then-all_finite
+returns-then-all_finite c = search second
 
-returns-2 : tie.Need-returns-2
-returns-2 c = search no
-
-pub both-finite-spec : {M : Type 1} → statement M
-both-finite-spec = tie.close (tie.spec (λ c κs. search rules) (λ c κs. search rules) returns returns-2)
+pub returns-else-all_finite : goal.returns-else-all_finite
+returns-else-all_finite c = search no

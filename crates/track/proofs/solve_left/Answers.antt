@@ -20,8 +20,7 @@ use Rattle.track.specs.Sevens.{sevens}
 use Rattle.track.specs.Track.{solve_left}
 use Rattle.track.specs.declared.Locked.{Locked}
 use Rattle.track.proofs.SevenRows.{seven_good}
-use Rattle.track.proofs.solve_left.Statement.{statement}
-use Rattle.track.proofs.solve_left.Tie as tie
+use Rattle.track.proofs.solve_left.Goals as goal
 
 module _ (family n : ℕ) (left to : List Float) (lock : Locked) (j : lock.joint ≤ 6) where
   -- what is written is the full list
@@ -74,45 +73,20 @@ module _ (family n : ℕ) (left to : List Float) (lock : Locked) (j : lock.joint
 five : (family : ℕ) → family ≤ 6 → (family ≡ 6 → ⊥) → family ≤ 5
 five family h other = omega arith
 
-search-requires : tie.Need-search-requires
-search-requires c κs = (search rules, search rules, search rules, search rules)
+pub search-list-requires : goal.search-list-requires
+search-list-requires c = (search rules, search rules, search rules, search rules)
 
-write-sevens-requires : tie.Need-write-sevens-requires
-write-sevens-requires c κs = (search rules, search rules)
+pub write_sevens-count-requires : goal.write_sevens-count-requires
+write_sevens-count-requires c = (search rules, search rules)
 
-returns : tie.Need-returns
-returns c = (search result-searched, (search angles-searched, search flags-searched))
+pub returns-then-family-eq6 : goal.returns-then-family-eq6
+returns-then-family-eq6 c = record { result = search result-searched; angles = search angles-searched; flags = search flags-searched }
 
-list-of-eight-requires : tie.Need-list-of-eight-requires
-list-of-eight-requires c κs = (search rules, search five, search rules, search rules, search rules, search rules)
+pub list_of_eight-list-requires : goal.list_of_eight-list-requires
+list_of_eight-list-requires c = (search rules, search five, search rules, search rules, search rules, search rules)
 
-write-sevens-requires-2 : tie.Need-write-sevens-requires-2
-write-sevens-requires-2 c κs = (search rules, search rules)
+pub write_sevens-count-requires-2 : goal.write_sevens-count-requires-2
+write_sevens-count-requires-2 c = (search rules, search rules)
 
-returns-2 : tie.Need-returns-2
-returns-2 c = (search result-kept, (search angles_kept, search flags_kept))
-
-pub solve-left-spec : {M : Type 1} → statement M
-solve-left-spec =
-    tie.close
-    (tie.spec
-    (λ c. search rules)
-    (λ c. search rules)
-    search-requires
-    (λ c. search rules)
-    (λ c. search rules)
-    write-sevens-requires
-    (λ c κs. search rules)
-    (λ c. search rules)
-    (λ c. search rules)
-    returns
-    (λ c. search rules)
-    (λ c. search rules)
-    list-of-eight-requires
-    (λ c. search rules)
-    (λ c. search rules)
-    write-sevens-requires-2
-    (λ c κs. search rules)
-    (λ c. search rules)
-    (λ c. search rules)
-    returns-2)
+pub returns : goal.returns
+returns c = record { result = search result-kept; angles = search angles_kept; flags = search flags_kept }

@@ -17,11 +17,8 @@ use Rattle.full_list.proofs.Laws.{listed_long}
 use Rattle.track.specs.Sevens.{sevens}
 use Rattle.track.specs.declared.Locked.{Locked}
 use Rattle.track.proofs.SevenRows.{seven_good}
-use Rattle.track.proofs.write_sevens.Statement.{statement}
-use Rattle.track.proofs.write_sevens.Tie as tie
-
-abbrev one : Answer → List Answer
-one q = q ∷ []
+use Rattle.track.proofs.write_sevens.Goals as goal
+use Rattle.track.proofs.write_sevens.Invariants.{Written, one}
 
 ones : (l : List Answer) → flat_map one l ≡ l
 unfolding flat_map
@@ -30,15 +27,6 @@ ones (q ∷ l) = ap (λ (t : List Answer). q ∷ t) (ones l)
 
 one_few : (q : Answer) → length (one q) ≤ 1
 one_few q = omega arith
-
-abbrev Written : FullList → List Float → List Float → List Float → List ℕ → Locked → List Float → List ℕ → List Float → List ℕ → ℕ → ℕ → Type 0
-Written l arm pose numbers bytes lock a₀ f₀ a f count k = StepsOf (sevens lock.joint lock.angle) one (listed l arm pose numbers bytes) l.answers 1 a₀ f₀ a f count k
-
-abbrev invariant-loop : tie.invariant-loop
-invariant-loop l arm pose numbers bytes lock angles₀ flags₀ count₀ k₀ angles flags count k = Written l arm pose numbers bytes lock angles₀ flags₀ angles flags count k
-
-abbrev decreases-loop : tie.decreases-loop
-decreases-loop l arm pose numbers bytes lock angles₀ flags₀ count₀ k₀ angles flags count k = l.answers - k
 
 module _ (l : FullList) (arm pose numbers : List Float) (bytes : List ℕ) (lock : Locked) (j : lock.joint ≤ 6) where
   start : (a : List Float) (f : List ℕ) → Sound l arm pose numbers bytes → Written l arm pose numbers bytes lock a f a f 0 0
@@ -69,50 +57,28 @@ small : (l : FullList) (arm pose numbers : List Float) (bytes : List ℕ) (lock 
     → count + r ≤ 17601
 small l arm pose numbers bytes lock t w = omega (arith, t.bound, t.within, t.few, w.all_counted)
 
-loop-holds : tie.Need-loop-init invariant-loop decreases-loop
-loop-holds c = search start
+pub loop-k-init : goal.loop-k-init
+loop-k-init c = search start
 
-answer-requires : tie.Need-answer-requires invariant-loop decreases-loop
-answer-requires c κs = (search rules, omega arith)
+pub answer-q-requires : goal.answer-q-requires
+answer-q-requires c = (search rules, omega arith)
 
-mul-rest : tie.Need-overflow-mul-rest invariant-loop decreases-loop
-mul-rest c = omega arith
-
-add-count : tie.Need-overflow-add-count invariant-loop decreases-loop
-add-count c =
+pub overflow_add-count : goal.overflow_add-count
+overflow_add-count c =
     let called = c.before.before.before.before in
     let tested = called.before.before.before.before.before.before.before in
-    omega (arith, small _ _ _ _ _ _ tested.before.loop.invariant called.put-seven.ensures)
+    omega (arith, small _ _ _ _ _ _ tested.before.loop-k.invariant called.put_seven-count.ensures)
 
-loop-again : tie.Need-loop-preserved invariant-loop decreases-loop
-loop-again c = search step
+pub loop-k-preserved : goal.loop-k-preserved
+loop-k-preserved c = search step
 
-returns : tie.Need-returns invariant-loop decreases-loop
+pub returns : goal.returns
 returns c = search all_written
 
-pub write-sevens-spec : {M : Type 1} → statement M
-write-sevens-spec =
-    tie.close
-    (tie.spec
-    invariant-loop
-    decreases-loop
-    loop-holds
-    answer-requires
-    mul-rest
-    (λ _ _. tt)
-    (λ _ _. tt)
-    (λ c. search rules)
-    (λ c. search rules)
-    (λ c. search rules)
-    (λ c. search rules)
-    (λ c. search rules)
-    (λ c. search rules)
-    (λ c. search rules)
-    (λ c κs. search rules)
-    add-count
-    (λ c. search rules)
-    (λ c. search rules)
-    loop-again
-    (λ c. search angles-same)
-    (λ c. search flags-same)
-    returns)
+pub shape_of-angles : goal.shape_of-angles
+shape_of-angles c =
+    search angles-same
+
+pub shape_of-flags : goal.shape_of-flags
+shape_of-flags c =
+    search flags-same

@@ -24,8 +24,7 @@ use Rattle.track.specs.Track.{reduced_finite, track_judge, track_refused, track_
 use Rattle.track.proofs.SevenRows.{seven_good, none_written}
 use Rattle.track.proofs.Accepted.{TrackAccepted, track_accepted}
 use Rattle.track.proofs.Numbers.{reduced_long, handed_long}
-use Rattle.track.proofs.solve_track.Statement.{statement}
-use Rattle.track.proofs.solve_track.Tie as tie
+use Rattle.track.proofs.solve_track.Goals as goal
 
 module _ (family n : ℕ) (arm : List Float) (joint : ℕ) (angle : Float) (pose : List Float) where
   -- a refusal, whatever joint: no list is long enough to be written to
@@ -134,41 +133,20 @@ module _ (family n : ℕ) (arm : List Float) (joint : ℕ) (angle : Float) (pose
       flags-overflow : flags ≡ flagged_of (sevens joint angle) (track_answers family n arm joint angle pose) angles flags
       flags-overflow = flags-refused angles flags (by-overflow h e-l e-t e-f o) not_zero
 
-returns : tie.Need-returns
-returns c = (search result-judged, (search angles-judged, search flags-judged))
+pub returns-then-first-ne0 : goal.returns-then-first-ne0
+returns-then-first-ne0 c = record { result = search result-judged; angles = search angles-judged; flags = search flags-judged }
 
-reduced-arm-requires : tie.Need-reduced-arm-requires
-reduced-arm-requires c κs = (search arm_fits, search joint-fits)
+pub reduced_arm-left-requires : goal.reduced_arm-left-requires
+reduced_arm-left-requires c = (search arm_fits, search joint-fits)
 
-handed_on-requires : tie.Need-handed_on-requires
-handed_on-requires c κs = (search arm_fits, search joint-fits, search pose_fits)
+pub handed_on-to-requires : goal.handed_on-to-requires
+handed_on-to-requires c = (search arm_fits, search joint-fits, search pose_fits)
 
-returns-2 : tie.Need-returns-2
-returns-2 c = (search result-overflow, (search angles-overflow, search flags-overflow))
+pub returns-then-not-both_finite : goal.returns-then-not-both_finite
+returns-then-not-both_finite c = record { result = search result-overflow; angles = search angles-overflow; flags = search flags-overflow }
 
-solve-left-requires : tie.Need-solve-left-requires
-solve-left-requires c κs = (search family_low, search family_high, search left-long, search to-long, search joint-fits)
+pub solve_left-requires : goal.solve_left-requires
+solve_left-requires c = (search family_low, search family_high, search left-long, search to-long, search joint-fits)
 
-returns-3 : tie.Need-returns-3
-returns-3 c = (search result, (search angles-solved, search flags-solved))
-
-pub solve-track-spec : {M : Type 1} → statement M
-solve-track-spec =
-    tie.close
-    (tie.spec
-    (λ c κs. search rules)
-    (λ c κs. search rules)
-    returns
-    reduced-arm-requires
-    handed_on-requires
-    (λ c. search rules)
-    (λ c. search rules)
-    (λ c κs. search rules)
-    (λ c κs. search rules)
-    returns-2
-    (λ c. search rules)
-    (λ c. search rules)
-    solve-left-requires
-    (λ c. search rules)
-    (λ c. search rules)
-    returns-3)
+pub returns : goal.returns
+returns c = record { result = search result; angles = search angles-solved; flags = search flags-solved }

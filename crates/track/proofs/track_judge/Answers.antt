@@ -9,8 +9,7 @@ use lib.Ieee.{Float}
 use lib.ListN.{length}
 use Rattle.refusals.specs.Judge.{known, samples_fit, all_finite}
 use Rattle.track.specs.Track.{lockable, track_judge}
-use Rattle.track.proofs.track_judge.Statement.{statement}
-use Rattle.track.proofs.track_judge.Tie as tie
+use Rattle.track.proofs.track_judge.Goals as goal
 
 module _ (family n : ℕ) (arm : List Float) (joint : ℕ) (angle : Float) (pose : List Float) {k : Bool} (e-k : k ≡ known family) where
   fourth : not k ≡ true → 4 ≡ track_judge family n arm joint angle pose
@@ -50,44 +49,26 @@ module _ (family n : ℕ) (arm : List Float) (joint : ℕ) (angle : Float) (pose
               in-pose : p ≡ false → 8 ≡ track_judge family n arm joint angle pose
               in-pose e = cc (rest, not-false l u, not-false s t', not-false a t'')
 
-returns : tie.Need-returns
-returns c = search fourth
+pub returns-then-not-within : goal.returns-then-not-within
+returns-then-not-within c = search fourth
 
-returns-2 : tie.Need-returns-2
-returns-2 c = search fifth
+pub returns-then-arm-ne45 : goal.returns-then-arm-ne45
+returns-then-arm-ne45 c = search fifth
 
-returns-3 : tie.Need-returns-3
-returns-3 c = search sixth
+pub returns-then-pose-ne12 : goal.returns-then-pose-ne12
+returns-then-pose-ne12 c = search sixth
 
-returns-4 : tie.Need-returns-4
-returns-4 c = search eleventh
+pub returns-then-not-lockable : goal.returns-then-not-lockable
+returns-then-not-lockable c = search eleventh
 
-returns-5 : tie.Need-returns-5
-returns-5 c = search seventh
+pub returns-then-not-samples_fit : goal.returns-then-not-samples_fit
+returns-then-not-samples_fit c = search seventh
 
-returns-6 : tie.Need-returns-6
-returns-6 c = search in-arm
+pub returns-then-not-all_finite : goal.returns-then-not-all_finite
+returns-then-not-all_finite c = search in-arm
 
-returns-7 : tie.Need-returns-7
-returns-7 c = search none
+pub returns-then-all_finite : goal.returns-then-all_finite
+returns-then-all_finite c = search none
 
-returns-8 : tie.Need-returns-8
-returns-8 c = search in-pose
-
-pub track-judge-spec : {M : Type 1} → statement M
-track-judge-spec =
-    tie.close
-    (tie.spec
-    (λ c κs. search rules)
-    returns
-    returns-2
-    returns-3
-    (λ c κs. search rules)
-    returns-4
-    (λ c κs. search rules)
-    returns-5
-    (λ c κs. search rules)
-    returns-6
-    (λ c κs. search rules)
-    returns-7
-    returns-8)
+pub returns-else-all_finite : goal.returns-else-all_finite
+returns-else-all_finite c = search in-pose

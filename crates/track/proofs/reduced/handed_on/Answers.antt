@@ -9,8 +9,7 @@ use Rattle.linear.specs.declared.vector.Vector3.{Vector3}
 use Rattle.kinematics.specs.Pose.{pose_rotation, pose_place}
 use Rattle.partial.specs.Partial.{locked_rotation}
 use Rattle.track.specs.Reduced.{pose_numbers, handed_on}
-use Rattle.track.proofs.reduced.handed_on.Statement.{statement}
-use Rattle.track.proofs.reduced.handed_on.Tie as tie
+use Rattle.track.proofs.reduced.handed_on.Goals as goal
 
 met : (arm : List Float) (joint : ℕ) (angle : Float) (pose : List Float) {r-n w t r : Matrix} {p : Vector3} {l : List Float}
     → r-n ≡ locked_rotation arm angle joint
@@ -23,8 +22,5 @@ met : (arm : List Float) (joint : ℕ) (angle : Float) (pose : List Float) {r-n 
 unfolding handed_on
 met arm joint angle pose e-n e-w e-t e-r e-p e-l = rw (← e-n, ← e-t, ← e-w, ← e-r, ← e-p) e-l
 
-returns : tie.Need-returns
+pub returns : goal.returns
 returns c = search met
-
-pub handed_on-spec : {M : Type 1} → statement M
-handed_on-spec = tie.close (tie.spec (λ c κs. search rules) (λ c κs. search rules) (λ c κs. search rules) (λ c κs. search rules) (λ c κs. search rules) (λ c κs. search rules) returns)
