@@ -2,6 +2,11 @@
 // of a function, x, y, and one or two results. The program writes, for each function, how many cases
 // there were and how many of them the port gives another result for.
 // tools/make/make_float_vectors.py makes the stored cases; tools/compare/compare.sh runs others.
+#![tactic(auto)]
+
+use std::io;
+use std::io::{Stdin, Stdout};
+
 const FUNCTIONS: u64 = 17;
 
 // Results that are one f64. An id that is none of theirs is answered elsewhere.
@@ -50,9 +55,9 @@ fn agrees(bytes: &[u8; 40], id: u64) -> bool {
 }
 
 // Checks one record, and answers whether there was a whole one.
-fn check(tally: &mut [u64; 64]) -> bool {
+fn check(input: &mut Stdin, tally: &mut [u64; 64]) -> bool {
     let mut bytes = [0u8; 40];
-    if !cases::next(&mut bytes, tally) {
+    if !cases::next(input, &mut bytes, tally) {
         return false;
     }
     let id = cases::word(&bytes, 0);
@@ -61,37 +66,38 @@ fn check(tally: &mut [u64; 64]) -> bool {
     true
 }
 
-// Input of any length: the count of turns is one that no run uses up.
-fn check_all(tally: &mut [u64; 64]) {
-    let mut turns = u64::MAX;
-    while turns > 0 && check(tally) {
-        turns -= 1;
+// Input of any length: no run uses up the turns.
+fn check_all(input: &mut Stdin, tally: &mut [u64; 64]) {
+    for _ in 0..u64::MAX {
+        if !check(input, tally) {
+            return;
+        }
     }
 }
 
-fn report(tally: &[u64; 64]) {
-    cases::line(b"abs", tally, 0);
-    cases::line(b"is_finite", tally, 1);
-    cases::line(b"sqrt", tally, 2);
-    cases::line(b"cbrt", tally, 3);
-    cases::line(b"sin", tally, 4);
-    cases::line(b"cos", tally, 5);
-    cases::line(b"sin_cos", tally, 6);
-    cases::line(b"atan2", tally, 7);
-    cases::line(b"rem_tau", tally, 8);
-    cases::line(b"rem_euclid_tau", tally, 9);
-    cases::line(b"wrap_to_pi", tally, 10);
-    cases::line(b"inverse_wrap_to_pi", tally, 11);
-    cases::line(b"infinity", tally, 12);
-    cases::line(b"add", tally, 13);
-    cases::line(b"sub", tally, 14);
-    cases::line(b"mul", tally, 15);
-    cases::line(b"div", tally, 16);
-    cases::end(tally);
+fn report(out: &Stdout, tally: &[u64; 64]) -> io::Result<()> {
+    cases::line(out, b"abs", tally, 0)?;
+    cases::line(out, b"is_finite", tally, 1)?;
+    cases::line(out, b"sqrt", tally, 2)?;
+    cases::line(out, b"cbrt", tally, 3)?;
+    cases::line(out, b"sin", tally, 4)?;
+    cases::line(out, b"cos", tally, 5)?;
+    cases::line(out, b"sin_cos", tally, 6)?;
+    cases::line(out, b"atan2", tally, 7)?;
+    cases::line(out, b"rem_tau", tally, 8)?;
+    cases::line(out, b"rem_euclid_tau", tally, 9)?;
+    cases::line(out, b"wrap_to_pi", tally, 10)?;
+    cases::line(out, b"inverse_wrap_to_pi", tally, 11)?;
+    cases::line(out, b"infinity", tally, 12)?;
+    cases::line(out, b"add", tally, 13)?;
+    cases::line(out, b"sub", tally, 14)?;
+    cases::line(out, b"mul", tally, 15)?;
+    cases::line(out, b"div", tally, 16)?;
+    cases::end(out, tally)
 }
 
-fn main() {
+fn main(rt: HostRuntime) -> io::Result<()> {
     let mut tally = [0u64; 64];
-    check_all(&mut tally);
-    report(&tally);
+    check_all(&mut rt.stdin(), &mut tally);
+    report(&rt.stdout(), &tally)
 }
