@@ -1,9 +1,13 @@
 // Compares the crate linear with outside results. Standard input has records of 28 words: the id of
 // a function, 18 words of arguments and 9 of results. A vector is x, y, z, and a matrix goes by rows.
 // `oracle cases linear 1 60` made the stored cases; tools/compare/compare.sh runs others.
+#![tactic(auto)]
+
 ghost use Rattle.std.specs.Prelude.{◌+◌, ◌≤◌};
 
 use linear::{Matrix3, Vector3};
+use std::io;
+use std::io::{Stdin, Stdout};
 
 const FUNCTIONS: u64 = 15;
 
@@ -104,9 +108,9 @@ fn agrees(bytes: &[u8; 224], id: u64) -> bool {
 }
 
 // Checks one record, and answers whether there was a whole one.
-fn check(tally: &mut [u64; 64]) -> bool {
+fn check(input: &mut Stdin, tally: &mut [u64; 64]) -> bool {
     let mut bytes = [0u8; 224];
-    if !cases::next(&mut bytes, tally) {
+    if !cases::next(input, &mut bytes, tally) {
         return false;
     }
     let id = cases::word(&bytes, 0);
@@ -115,35 +119,36 @@ fn check(tally: &mut [u64; 64]) -> bool {
     true
 }
 
-// Input of any length: the count of turns is one that no run uses up.
-fn check_all(tally: &mut [u64; 64]) {
-    let mut turns = u64::MAX;
-    while turns > 0 && check(tally) {
-        turns -= 1;
+// Input of any length: no run uses up the turns.
+fn check_all(input: &mut Stdin, tally: &mut [u64; 64]) {
+    for _ in 0..u64::MAX {
+        if !check(input, tally) {
+            return;
+        }
     }
 }
 
-fn report(tally: &[u64; 64]) {
-    cases::line(b"dot", tally, 0);
-    cases::line(b"cross", tally, 1);
-    cases::line(b"norm", tally, 2);
-    cases::line(b"norm_squared", tally, 3);
-    cases::line(b"normalize", tally, 4);
-    cases::line(b"add", tally, 5);
-    cases::line(b"sub", tally, 6);
-    cases::line(b"neg", tally, 7);
-    cases::line(b"scale", tally, 8);
-    cases::line(b"product", tally, 9);
-    cases::line(b"apply", tally, 10);
-    cases::line(b"transpose", tally, 11);
-    cases::line(b"hat", tally, 12);
-    cases::line(b"rot", tally, 13);
-    cases::line(b"column_sum", tally, 14);
-    cases::end(tally);
+fn report(out: &Stdout, tally: &[u64; 64]) -> io::Result<()> {
+    cases::line(out, b"dot", tally, 0)?;
+    cases::line(out, b"cross", tally, 1)?;
+    cases::line(out, b"norm", tally, 2)?;
+    cases::line(out, b"norm_squared", tally, 3)?;
+    cases::line(out, b"normalize", tally, 4)?;
+    cases::line(out, b"add", tally, 5)?;
+    cases::line(out, b"sub", tally, 6)?;
+    cases::line(out, b"neg", tally, 7)?;
+    cases::line(out, b"scale", tally, 8)?;
+    cases::line(out, b"product", tally, 9)?;
+    cases::line(out, b"apply", tally, 10)?;
+    cases::line(out, b"transpose", tally, 11)?;
+    cases::line(out, b"hat", tally, 12)?;
+    cases::line(out, b"rot", tally, 13)?;
+    cases::line(out, b"column_sum", tally, 14)?;
+    cases::end(out, tally)
 }
 
-fn main() {
+fn main(rt: HostRuntime) -> io::Result<()> {
     let mut tally = [0u64; 64];
-    check_all(&mut tally);
-    report(&tally);
+    check_all(&mut rt.stdin(), &mut tally);
+    report(&rt.stdout(), &tally)
 }
