@@ -1,9 +1,13 @@
 // Compares the crate complex with outside results. Standard input has records of seven words: the id
 // of a function, four words of arguments and two of results. A complex number is re, im.
 // `oracle cases complex 1 100` made the stored cases; tools/compare/compare.sh runs others.
+#![tactic(auto)]
+
 ghost use Rattle.std.specs.Prelude.{◌+◌, ◌≤◌};
 
 use complex::Complex;
+use std::io;
+use std::io::{Stdin, Stdout};
 
 const FUNCTIONS: u64 = 11;
 
@@ -51,9 +55,9 @@ fn agrees(bytes: &[u8; 56], id: u64) -> bool {
 }
 
 // Checks one record, and answers whether there was a whole one.
-fn check(tally: &mut [u64; 64]) -> bool {
+fn check(input: &mut Stdin, tally: &mut [u64; 64]) -> bool {
     let mut bytes = [0u8; 56];
-    if !cases::next(&mut bytes, tally) {
+    if !cases::next(input, &mut bytes, tally) {
         return false;
     }
     let id = cases::word(&bytes, 0);
@@ -62,31 +66,32 @@ fn check(tally: &mut [u64; 64]) -> bool {
     true
 }
 
-// Input of any length: the count of turns is one that no run uses up.
-fn check_all(tally: &mut [u64; 64]) {
-    let mut turns = u64::MAX;
-    while turns > 0 && check(tally) {
-        turns -= 1;
+// Input of any length: no run uses up the turns.
+fn check_all(input: &mut Stdin, tally: &mut [u64; 64]) {
+    for _ in 0..u64::MAX {
+        if !check(input, tally) {
+            return;
+        }
     }
 }
 
-fn report(tally: &[u64; 64]) {
-    cases::line(b"add", tally, 0);
-    cases::line(b"sub", tally, 1);
-    cases::line(b"neg", tally, 2);
-    cases::line(b"mul", tally, 3);
-    cases::line(b"div", tally, 4);
-    cases::line(b"scale", tally, 5);
-    cases::line(b"over", tally, 6);
-    cases::line(b"real_over", tally, 7);
-    cases::line(b"abs", tally, 8);
-    cases::line(b"sqrt", tally, 9);
-    cases::line(b"cbrt", tally, 10);
-    cases::end(tally);
+fn report(out: &Stdout, tally: &[u64; 64]) -> io::Result<()> {
+    cases::line(out, b"add", tally, 0)?;
+    cases::line(out, b"sub", tally, 1)?;
+    cases::line(out, b"neg", tally, 2)?;
+    cases::line(out, b"mul", tally, 3)?;
+    cases::line(out, b"div", tally, 4)?;
+    cases::line(out, b"scale", tally, 5)?;
+    cases::line(out, b"over", tally, 6)?;
+    cases::line(out, b"real_over", tally, 7)?;
+    cases::line(out, b"abs", tally, 8)?;
+    cases::line(out, b"sqrt", tally, 9)?;
+    cases::line(out, b"cbrt", tally, 10)?;
+    cases::end(out, tally)
 }
 
-fn main() {
+fn main(rt: HostRuntime) -> io::Result<()> {
     let mut tally = [0u64; 64];
-    check_all(&mut tally);
-    report(&tally);
+    check_all(&mut rt.stdin(), &mut tally);
+    report(&rt.stdout(), &tally)
 }
