@@ -2,6 +2,11 @@
 // records of 64 words: the id, which is 0, the arm's 39 numbers, six angles and 18 words of results,
 // as `oracle layout` has them. `oracle cases kinematics 1 500` made the stored cases;
 // tools/compare/compare.sh runs others.
+#![tactic(auto)]
+
+use std::io;
+use std::io::{Stdin, Stdout};
+
 const FUNCTIONS: u64 = 1;
 
 const ARM: usize = 1;
@@ -54,9 +59,9 @@ fn agrees(bytes: &[u8; 512]) -> bool {
 }
 
 // Checks one record, and answers whether there was a whole one.
-fn check(tally: &mut [u64; 64]) -> bool {
+fn check(input: &mut Stdin, tally: &mut [u64; 64]) -> bool {
     let mut bytes = [0u8; 512];
-    if !cases::next(&mut bytes, tally) {
+    if !cases::next(input, &mut bytes, tally) {
         return false;
     }
     let id = cases::word(&bytes, 0);
@@ -65,17 +70,19 @@ fn check(tally: &mut [u64; 64]) -> bool {
     true
 }
 
-// Input of any length: the count of turns is one that no run uses up.
-fn check_all(tally: &mut [u64; 64]) {
-    let mut turns = u64::MAX;
-    while turns > 0 && check(tally) {
-        turns -= 1;
+// Input of any length: no run uses up the turns.
+fn check_all(input: &mut Stdin, tally: &mut [u64; 64]) {
+    for _ in 0..u64::MAX {
+        if !check(input, tally) {
+            return;
+        }
     }
 }
 
-fn main() {
+fn main(rt: HostRuntime) -> io::Result<()> {
+    let out = rt.stdout();
     let mut tally = [0u64; 64];
-    check_all(&mut tally);
-    cases::line(b"forward_kinematics", &tally, 0);
-    cases::end(&tally);
+    check_all(&mut rt.stdin(), &mut tally);
+    cases::line(&out, b"forward_kinematics", &tally, 0)?;
+    cases::end(&out, &tally)
 }
