@@ -2,6 +2,11 @@
 // id of a function, 40 words of arguments and 23 of results, as `oracle layout` has them.
 // `oracle cases polynomial 373 500` made the stored cases, in which every count of roots and of
 // points occurs; tools/compare/compare.sh runs others.
+#![tactic(auto)]
+
+use std::io;
+use std::io::{Stdin, Stdout};
+
 const FUNCTIONS: u64 = 10;
 
 // The place of the first result.
@@ -25,9 +30,9 @@ fn agrees(bytes: &[u8; 512], id: u64) -> bool {
 }
 
 // Checks one record, and answers whether there was a whole one.
-fn check(tally: &mut [u64; 64]) -> bool {
+fn check(input: &mut Stdin, tally: &mut [u64; 64]) -> bool {
     let mut bytes = [0u8; 512];
-    if !cases::next(&mut bytes, tally) {
+    if !cases::next(input, &mut bytes, tally) {
         return false;
     }
     let id = cases::word(&bytes, 0);
@@ -36,30 +41,31 @@ fn check(tally: &mut [u64; 64]) -> bool {
     true
 }
 
-// Input of any length: the count of turns is one that no run uses up.
-fn check_all(tally: &mut [u64; 64]) {
-    let mut turns = u64::MAX;
-    while turns > 0 && check(tally) {
-        turns -= 1;
+// Input of any length: no run uses up the turns.
+fn check_all(input: &mut Stdin, tally: &mut [u64; 64]) {
+    for _ in 0..u64::MAX {
+        if !check(input, tally) {
+            return;
+        }
     }
 }
 
-fn report(tally: &[u64; 64]) {
-    cases::line(b"cone_polynomials", tally, 0);
-    cases::line(b"vec_self_convolve_2", tally, 1);
-    cases::line(b"vec_self_convolve_3", tally, 2);
-    cases::line(b"vec_convolve_3", tally, 3);
-    cases::line(b"solve_quartic_roots", tally, 4);
-    cases::line(b"solve_cubic_roots", tally, 5);
-    cases::line(b"solve_quadratic_roots", tally, 6);
-    cases::line(b"solve_lower_triangular_system_2x2", tally, 7);
-    cases::line(b"qr", tally, 8);
-    cases::line(b"solve_two_ellipse_numeric", tally, 9);
-    cases::end(tally);
+fn report(out: &Stdout, tally: &[u64; 64]) -> io::Result<()> {
+    cases::line(out, b"cone_polynomials", tally, 0)?;
+    cases::line(out, b"vec_self_convolve_2", tally, 1)?;
+    cases::line(out, b"vec_self_convolve_3", tally, 2)?;
+    cases::line(out, b"vec_convolve_3", tally, 3)?;
+    cases::line(out, b"solve_quartic_roots", tally, 4)?;
+    cases::line(out, b"solve_cubic_roots", tally, 5)?;
+    cases::line(out, b"solve_quadratic_roots", tally, 6)?;
+    cases::line(out, b"solve_lower_triangular_system_2x2", tally, 7)?;
+    cases::line(out, b"qr", tally, 8)?;
+    cases::line(out, b"solve_two_ellipse_numeric", tally, 9)?;
+    cases::end(out, tally)
 }
 
-fn main() {
+fn main(rt: HostRuntime) -> io::Result<()> {
     let mut tally = [0u64; 64];
-    check_all(&mut tally);
-    report(&tally);
+    check_all(&mut rt.stdin(), &mut tally);
+    report(&rt.stdout(), &tally)
 }
