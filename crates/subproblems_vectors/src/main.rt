@@ -2,6 +2,11 @@
 // id of a function, 40 words of arguments and 23 of results, as `oracle layout` has them.
 // `oracle cases subproblems 59 500` made the stored cases, in which subproblem5 has 0 to 16
 // candidates; tools/compare/compare.sh runs others.
+#![tactic(auto)]
+
+use std::io;
+use std::io::{Stdin, Stdout};
+
 const FUNCTIONS: u64 = 11;
 
 // The place of the first result.
@@ -30,9 +35,9 @@ fn agrees(bytes: &[u8; 512], id: u64) -> bool {
 }
 
 // Checks one record, and answers whether there was a whole one.
-fn check(tally: &mut [u64; 64]) -> bool {
+fn check(input: &mut Stdin, tally: &mut [u64; 64]) -> bool {
     let mut bytes = [0u8; 512];
-    if !cases::next(&mut bytes, tally) {
+    if !cases::next(input, &mut bytes, tally) {
         return false;
     }
     let id = cases::word(&bytes, 0);
@@ -41,30 +46,31 @@ fn check(tally: &mut [u64; 64]) -> bool {
     true
 }
 
-// Input of any length: the count of turns is one that no run uses up.
-fn check_all(tally: &mut [u64; 64]) {
-    let mut turns = u64::MAX;
-    while turns > 0 && check(tally) {
-        turns -= 1;
+// Input of any length: no run uses up the turns.
+fn check_all(input: &mut Stdin, tally: &mut [u64; 64]) {
+    for _ in 0..u64::MAX {
+        if !check(input, tally) {
+            return;
+        }
     }
 }
 
-fn report(tally: &[u64; 64]) {
-    cases::line(b"subproblem1", tally, 1);
-    cases::line(b"subproblem2", tally, 2);
-    cases::line(b"subproblem3", tally, 3);
-    cases::line(b"subproblem4", tally, 4);
-    cases::line(b"subproblem5", tally, 5);
-    cases::line(b"subproblem6", tally, 6);
-    cases::line(b"subproblem1_sc", tally, 7);
-    cases::line(b"subproblem3_sc", tally, 8);
-    cases::line(b"subproblem4_sc", tally, 9);
-    cases::line(b"reduced_solutionset", tally, 10);
-    cases::end(tally);
+fn report(out: &Stdout, tally: &[u64; 64]) -> io::Result<()> {
+    cases::line(out, b"subproblem1", tally, 1)?;
+    cases::line(out, b"subproblem2", tally, 2)?;
+    cases::line(out, b"subproblem3", tally, 3)?;
+    cases::line(out, b"subproblem4", tally, 4)?;
+    cases::line(out, b"subproblem5", tally, 5)?;
+    cases::line(out, b"subproblem6", tally, 6)?;
+    cases::line(out, b"subproblem1_sc", tally, 7)?;
+    cases::line(out, b"subproblem3_sc", tally, 8)?;
+    cases::line(out, b"subproblem4_sc", tally, 9)?;
+    cases::line(out, b"reduced_solutionset", tally, 10)?;
+    cases::end(out, tally)
 }
 
-fn main() {
+fn main(rt: HostRuntime) -> io::Result<()> {
     let mut tally = [0u64; 64];
-    check_all(&mut tally);
-    report(&tally);
+    check_all(&mut rt.stdin(), &mut tally);
+    report(&rt.stdout(), &tally)
 }
