@@ -16,8 +16,7 @@ use Rattle.families.specs.Spherical.{spherical}
 use Rattle.families.specs.ThreeParallelTwoIntersecting.{three_parallel_two_intersecting}
 use Rattle.families.specs.ThreeParallel.{three_parallel}
 use Rattle.calls_c.specs.Numbered.{by_number}
-use Rattle.calls_c.proofs.family_call.by_number.Statement.{statement}
-use Rattle.calls_c.proofs.family_call.by_number.Tie as tie
+use Rattle.calls_c.proofs.family_call.by_number.Goals as goal
 
 module _ (id : ℕ) (r : Matrix) (p : Vector3) (kin : Kinematics) (tolerance : Float) {a₀ a : List Float} {b₀ b : List ℕ} {k : ℕ} where
   first : id ≡ 1 → Wrote (spherical_two_parallel r p kin tolerance) a₀ b₀ a b k → Wrote (by_number id r p kin tolerance) a₀ b₀ a b k
@@ -46,46 +45,20 @@ other : (id : ℕ) (r : Matrix) (p : Vector3) (kin : Kinematics) (tolerance : Fl
 unfolding by_number
 other id r p kin tolerance a b h1 h2 h3 h4 h5 = rw (ne_eqb id 1 h1, ne_eqb id 2 h2, ne_eqb id 3 h3, ne_eqb id 4 h4, ne_eqb id 5 h5) (nothing a b)
 
-returns : tie.Need-returns
-returns c = search first
+pub returns-in-1 : goal.returns-in-1
+returns-in-1 c = search first
 
-returns-2 : tie.Need-returns-2
-returns-2 c = search second
+pub returns-in-2 : goal.returns-in-2
+returns-in-2 c = search second
 
-returns-3 : tie.Need-returns-3
-returns-3 c = search third
+pub returns-in-3 : goal.returns-in-3
+returns-in-3 c = search third
 
-returns-4 : tie.Need-returns-4
-returns-4 c = search fourth
+pub returns-in-4 : goal.returns-in-4
+returns-in-4 c = search fourth
 
-returns-5 : tie.Need-returns-5
-returns-5 c = search fifth
+pub returns-in-5 : goal.returns-in-5
+returns-in-5 c = search fifth
 
-returns-6 : tie.Need-returns-6
-returns-6 c = search other
-
-pub by-number-spec : {M : Type 1} → statement M
-by-number-spec =
-    tie.close
-    (tie.spec
-    (λ _ _. tt)
-    (λ _ _. tt)
-    (λ _ _. tt)
-    (λ _ _. tt)
-    (λ _ _. tt)
-    (λ c. search rules)
-    (λ c. search rules)
-    returns
-    (λ c. search rules)
-    (λ c. search rules)
-    returns-2
-    (λ c. search rules)
-    (λ c. search rules)
-    returns-3
-    (λ c. search rules)
-    (λ c. search rules)
-    returns-4
-    (λ c. search rules)
-    (λ c. search rules)
-    returns-5
-    returns-6)
+pub returns-in_default : goal.returns-in_default
+returns-in_default c = search other

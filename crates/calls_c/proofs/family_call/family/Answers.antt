@@ -12,8 +12,7 @@ use Rattle.kinematics.specs.Pose.{pose_rotation, pose_place}
 use Rattle.kinematics.specs.declared.Kinematics.{Kinematics}
 use Rattle.answers.specs.Written.{Wrote}
 use Rattle.calls_c.specs.Numbered.{by_number, family_answers}
-use Rattle.calls_c.proofs.family_call.family.Statement.{statement}
-use Rattle.calls_c.proofs.family_call.family.Tie as tie
+use Rattle.calls_c.proofs.family_call.family.Goals as goal
 
 met : (id : ℕ) (arm pose : List Float) {r : Matrix} {p : Vector3} {kin : Kinematics} {a₀ a : List Float} {b₀ b : List ℕ} {k : ℕ}
     → kin ≡ from_numbers arm
@@ -23,26 +22,5 @@ met : (id : ℕ) (arm pose : List Float) {r : Matrix} {p : Vector3} {kin : Kinem
     → Wrote (family_answers id arm pose) a₀ b₀ a b k
 met id arm pose e-k e-r e-p w = rw (← e-k, ← e-r, ← e-p) w
 
-from-numbers-requires : tie.Need-from-numbers-requires
-from-numbers-requires c κs = search rules
-
-pose-rotation-requires : tie.Need-pose-rotation-requires
-pose-rotation-requires c κs = search rules
-
-pose-place-requires : tie.Need-pose-place-requires
-pose-place-requires c κs = search rules
-
-returns : tie.Need-returns
+pub returns : goal.returns
 returns c = search met
-
-pub family-spec : {M : Type 1} → statement M
-family-spec =
-    tie.close
-    (tie.spec
-    from-numbers-requires
-    pose-rotation-requires
-    pose-place-requires
-    (λ _ _. tt)
-    (λ c. search rules)
-    (λ c. search rules)
-    returns)
