@@ -9,8 +9,7 @@ use Rattle.answers.specs.Answer.{six, byte}
 use Rattle.one_answer.specs.OneAnswer.{Gives}
 use Rattle.one_answer.specs.declared.One.{One}
 use Rattle.saihkeb.specs.Library.{Told}
-use Rattle.saihkeb.proofs.saihkeb_solve_one_lent.Statement.{statement}
-use Rattle.saihkeb.proofs.saihkeb_solve_one_lent.Tie as tie
+use Rattle.saihkeb.proofs.saihkeb_solve_one_lent.Goals as goal
 
 told : (family n : ℕ) (arm pose limits : List Float) {one : One} {r : ℕ} {angles₀ angles : List Float} {flag₀ flag : List ℕ}
     → Gives family n arm pose limits one
@@ -20,8 +19,5 @@ told : (family n : ℕ) (arm pose limits : List Float) {one : One} {r : ℕ} {an
     → Told family n arm pose limits r angles₀ angles flag₀ flag
 told family n arm pose limits {one} g e e-a e-f = record { answer = one.answer; gives = rw e g; angles_are = e-a; flag_is = e-f }
 
-returns : tie.Need-returns
+pub returns : goal.returns
 returns c = search told
-
-pub saihkeb-solve-one-lent-spec : {M : Type 1} → statement M
-saihkeb-solve-one-lent-spec = tie.close (tie.spec (λ c κs. search rules) (λ c κs. search rules) returns)
