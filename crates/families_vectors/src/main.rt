@@ -6,7 +6,12 @@
 // Records of family 6, whose lists may be longer, are passed over: the program search_vectors has those.
 // `oracle cases families 1 300` made the stored cases, less those of family 6;
 // tools/compare/compare.sh runs others.
+#![tactic(auto)]
+
 ghost use Rattle.std.specs.Prelude.{◌≤◌};
+
+use std::io;
+use std::io::{Stdin, Stdout};
 
 // One more than the last family.
 const FAMILIES: u64 = 6;
@@ -179,9 +184,9 @@ fn agrees(bytes: &[u8; 896], id: u64) -> bool {
 }
 
 // Checks one record, and answers whether there was a whole one.
-fn check(tally: &mut [u64; 64]) -> bool {
+fn check(input: &mut Stdin, tally: &mut [u64; 64]) -> bool {
     let mut bytes = [0u8; 896];
-    if !cases::next(&mut bytes, tally) {
+    if !cases::next(input, &mut bytes, tally) {
         return false;
     }
     let id = cases::word(&bytes, 0);
@@ -193,25 +198,26 @@ fn check(tally: &mut [u64; 64]) -> bool {
     true
 }
 
-// Input of any length: the count of turns is one that no run uses up.
-fn check_all(tally: &mut [u64; 64]) {
-    let mut turns = u64::MAX;
-    while turns > 0 && check(tally) {
-        turns -= 1;
+// Input of any length: no run uses up the turns.
+fn check_all(input: &mut Stdin, tally: &mut [u64; 64]) {
+    for _ in 0..u64::MAX {
+        if !check(input, tally) {
+            return;
+        }
     }
 }
 
-fn report(tally: &[u64; 64]) {
-    cases::line(b"spherical_two_parallel", tally, 1);
-    cases::line(b"spherical_two_intersecting", tally, 2);
-    cases::line(b"spherical", tally, 3);
-    cases::line(b"three_parallel_two_intersecting", tally, 4);
-    cases::line(b"three_parallel", tally, 5);
-    cases::end(tally);
+fn report(out: &Stdout, tally: &[u64; 64]) -> io::Result<()> {
+    cases::line(out, b"spherical_two_parallel", tally, 1)?;
+    cases::line(out, b"spherical_two_intersecting", tally, 2)?;
+    cases::line(out, b"spherical", tally, 3)?;
+    cases::line(out, b"three_parallel_two_intersecting", tally, 4)?;
+    cases::line(out, b"three_parallel", tally, 5)?;
+    cases::end(out, tally)
 }
 
-fn main() {
+fn main(rt: HostRuntime) -> io::Result<()> {
     let mut tally = [0u64; 64];
-    check_all(&mut tally);
-    report(&tally);
+    check_all(&mut rt.stdin(), &mut tally);
+    report(&rt.stdout(), &tally)
 }
