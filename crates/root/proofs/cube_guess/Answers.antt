@@ -3,10 +3,8 @@ use native.Mathlib.Omega.{arith}
 use mathlib.Core.Path.{sym, subst}
 use lib.Dec.{T}
 use lib.Ieee.{of_bits}
-use borrow.Author.Rules.{rules}
 use Rattle.root.proofs.Decode.{low_number, at_least_one}
 use Rattle.root.proofs.cube_guess.Goals as goal
-
 
 pub float_from_bits-z : goal.float_from_bits-z
 float_from_bits-z c = low_number _ (omega arith)

@@ -1,6 +1,5 @@
 -- `root::cube_half` meets its contract: the guess where the root lies between the odd numbers beside twice it. Assumes nothing.
 use Prim.Native.Nat.{ℕ, ◌+◌, ◌*◌, ◌^◌, ◌<◌}
-use native.Mathlib.Nat.{lt_of_le_of_lt}
 use mir.Val.{Fits}
 use mir.Syntax.{w64}
 use native.Mathlib.Omega.{arith}
@@ -9,9 +8,7 @@ use mathlib.Core.Bool.{Bool, true}
 use Rattle.root.specs.Root.{WholeRoot, cube}
 use Rattle.root.specs.Steps.{HalfCubeRoot, Beside}
 use Rattle.root.proofs.Cubes.{half_root, short}
-use borrow.Author.Rules.{rules}
 use Rattle.root.proofs.cube_half.Goals as goal
-
 
 fits_next : (m r : ℕ) → m < 2 ^ 55 → WholeRoot cube (m * 2 ^ 107) r → Fits w64 (r + 1)
 fits_next m r h root = let k = short m r h root.low in record { fits = go r k }

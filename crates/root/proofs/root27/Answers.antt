@@ -2,9 +2,7 @@
 use Prim.Native.Nat.{ℕ, ◌*◌, ◌^◌, ◌<◌, ◌≤◌}
 use native.Mathlib.Nat.{mul-le-mul_right, le_of_lt}
 use native.Mathlib.Omega.{arith}
-use borrow.Author.Rules.{rules}
 use Rattle.root.proofs.root27.Goals as goal
-
 
 square-fits : (r : ℕ) → r < 2 ^ 27 → r * r < 2 ^ 64
 square-fits r h = let k : r * r ≤ 2 ^ 27 * r = mul-le-mul_right r (le_of_lt h) in omega arith

@@ -3,10 +3,8 @@ use native.Mathlib.Omega.{arith}
 use mathlib.Core.Path.{sym, subst}
 use lib.Dec.{T, le→leb}
 use lib.Ieee.{of_bits, in_float}
-use borrow.Author.Rules.{rules}
 use Rattle.root.proofs.Decode.{at_least_one}
 use Rattle.root.proofs.square_guess.Goals as goal
-
 
 pub int_to_float-half : goal.int_to_float-half
 unfolding in_float
