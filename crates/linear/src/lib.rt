@@ -1,5 +1,7 @@
 // Vectors and matrices of three dimensions and rotations, as document 01 fixes nalgebra's: each
 // function equals its definition in specs/ on every input.
+#![tactic(auto)]
+
 mod matrix;
 mod vector;
 

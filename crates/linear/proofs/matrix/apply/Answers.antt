@@ -1,5 +1,4 @@
 -- The definition is opened here, and stays shut for callers: each part is by `row_dot`.
-use borrow.Author.Rules.{rules}
 use Rattle.linear.specs.Matrix.{apply}
 use Rattle.linear.proofs.matrix.apply.Goals as goal
 

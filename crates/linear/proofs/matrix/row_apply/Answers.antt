@@ -2,7 +2,6 @@
 use mathlib.Core.Path.{◌≡◌}
 use mathlib.Core.List.{List}
 use lib.Ieee.{Float}
-use borrow.Author.Rules.{rules}
 use Rattle.linear.specs.Matrix.{Matrix, part, array3, row_product, row_apply}
 use Rattle.linear.specs.declared.vector.Vector3.{Vector3}
 use Rattle.linear.proofs.matrix.row_apply.Goals as goal
