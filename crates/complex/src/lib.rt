@@ -1,5 +1,7 @@
 // Complex numbers, as document 01 fixes num-complex's: each function equals its definition in
 // specs/ on every input.
+#![tactic(auto)]
+
 ghost use Rattle.std.specs.Prelude.{◌≡◌};
 ghost use Rattle.complex.specs.Complex.{◌+ᶜ◌, ◌-ᶜ◌, negᶜ, ◌*ᶜ◌, ◌/ᶜ◌, scaleᶜ, overᶜ, real_overᶜ, modulus, absᶜ, polar, sqrtᶜ, cbrtᶜ};
 
