@@ -3,6 +3,8 @@
 // panics on a case, the method here asks its caller to show that the case does not arise; the arm
 // that stands for it gives 0.0. Sets of pairs and of triples
 // stand in modules of their own, and are named here too.
+#![tactic(auto)]
+
 mod pairs;
 mod triples;
 

@@ -1,7 +1,6 @@
 -- By the number of slots that count.
 use mathlib.Core.Path.{◌≡◌}
 use native.Mathlib.Omega.{arith}
-use borrow.Author.Rules.{rules}
 use lib.Ieee.{nan}
 use Rattle.solutionset.specs.SolutionSet2.{from_vec}
 use Rattle.solutionset.proofs.Laws.{of_two}

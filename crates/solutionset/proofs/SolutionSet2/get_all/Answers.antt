@@ -1,6 +1,5 @@
 -- Each arm is given that the set is its constructor at the solutions.
 use mathlib.Core.Path.{sym, ap}
-use borrow.Author.Rules.{rules}
 use Rattle.solutionset.specs.SolutionSet2.{get_all, slots}
 use Rattle.solutionset.specs.declared.SolutionSet2.{SolutionSet2}
 use Rattle.solutionset.specs.declared.Slots2.{Slots2}

@@ -1,6 +1,5 @@
 -- Each arm is given that the set is its constructor at the solutions.
 use mathlib.Core.Path.{sym, ap}
-use borrow.Author.Rules.{rules}
 use Rattle.solutionset.specs.SolutionSet4.{get_first}
 use Rattle.solutionset.proofs.SolutionSet4.get_first.Goals as goal
 

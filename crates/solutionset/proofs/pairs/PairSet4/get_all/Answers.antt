@@ -1,6 +1,5 @@
 -- Each arm is given that the set is its constructor at the solutions.
 use mathlib.Core.Path.{sym, ap}
-use borrow.Author.Rules.{rules}
 use Rattle.solutionset.specs.PairSet4.{get_all, slots}
 use Rattle.solutionset.specs.declared.pairs.PairSet4.{PairSet4}
 use Rattle.solutionset.specs.declared.pairs.PairSlots4.{PairSlots4}

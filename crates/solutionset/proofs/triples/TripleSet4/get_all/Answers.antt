@@ -1,6 +1,5 @@
 -- Each arm is given that the set is its constructor at the solutions.
 use mathlib.Core.Path.{sym, ap}
-use borrow.Author.Rules.{rules}
 use Rattle.solutionset.specs.TripleSet4.{get_all, slots}
 use Rattle.solutionset.specs.declared.triples.TripleSet4.{TripleSet4}
 use Rattle.solutionset.specs.declared.triples.TripleSlots4.{TripleSlots4}
