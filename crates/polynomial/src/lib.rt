@@ -1,6 +1,8 @@
 // Of the Rust's subproblems/auxiliary.rs: convolutions, the polynomials of a cone, a system of two equations,
 // and the roots of polynomials to degree 4. Each function equals its definition in specs/ on every input, and
 // none asks anything of its caller.
+#![tactic(auto)]
+
 mod convolution;
 mod cubic_roots;
 mod quadratic_roots;

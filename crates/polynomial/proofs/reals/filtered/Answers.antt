@@ -1,10 +1,7 @@
 -- The loop keeps `Kept`; it ends where the roots or the slots end.
-use Prim.Native.Nat.{◌-◌}
 use mathlib.Core.Path.{refl}
 use native.Mathlib.Omega.{arith}
-use borrow.Author.Rules.{rules}
-use lib.ListN.{take}
-use Rattle.polynomial.proofs.Filter.{Kept, kept, passed, end_of_roots, end_of_slots}
+use Rattle.polynomial.proofs.Filter.{kept, passed, end_of_roots, end_of_slots}
 use Rattle.polynomial.proofs.reals.filtered.Goals as goal
 use Rattle.polynomial.proofs.reals.filtered.Goals.{then-abs-epsilon, else-abs-epsilon}
 

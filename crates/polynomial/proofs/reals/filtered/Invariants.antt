@@ -1,11 +1,7 @@
 -- The loop keeps `Kept`; it ends where the roots or the slots end.
 use Prim.Native.Nat.{◌-◌}
-use mathlib.Core.Path.{refl}
-use mathlib.Core.Logic.{⊎_elim}
-use native.Mathlib.Omega.{arith}
-use borrow.Author.Rules.{rules}
 use lib.ListN.{take}
-use Rattle.polynomial.proofs.Filter.{Kept, kept, passed, end_of_roots, end_of_slots}
+use Rattle.polynomial.proofs.Filter.{Kept}
 use Rattle.polynomial.proofs.reals.filtered.Given as goal
 
 abbrev pub invariant-loop-i : goal.invariant-loop-i
