@@ -1,4 +1,6 @@
 // The QR that document 01 fixes: each function equals its definition in specs/ on every input.
+#![tactic(auto)]
+
 mod householder;
 
 pub use householder::qr;
