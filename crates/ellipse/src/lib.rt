@@ -1,4 +1,6 @@
 // The points where two ellipses meet.
+#![tactic(auto)]
+
 ghost use Rattle.std.specs.Prelude.{◌≡◌, ◌≤◌, map, take};
 ghost use Rattle.solutionset.specs.PairSet4.{from_vec};
 ghost use Rattle.ellipse.specs.Ellipse.{coefficients, z0, z1, z2, z3, z4, quartic_in_y, x_of, point, solve_two_ellipse_numeric};
