@@ -1,5 +1,7 @@
 // Tests of two norms by their squares. A square root is taken only where the squares leave the
 // answer open: roots of squares that are close come out close, and those of others do not.
+#![tactic(auto)]
+
 ghost use Rattle.std.specs.Prelude.{◌≡◌, true};
 ghost use Rattle.std.specs.Float.Ieee.{lt};
 ghost use Rattle.float.specs.Num.{◌⊖◌};

@@ -1,6 +1,6 @@
 -- The two laws on close squares; elsewhere nothing is said.
 use mathlib.Core.Path.{◌≡◌}
-use mathlib.Core.Bool.{Bool, true, false, false≢true}
+use mathlib.Core.Bool.{true, false, false≢true}
 use lib.Ieee.{Float, lt}
 use Rattle.float.specs.Num.{◌⊖◌, nought, one}
 use Rattle.float.specs.Number.{abs}

@@ -2,7 +2,6 @@
 use mathlib.Core.Path.{◌≡◌, sym}
 use mathlib.Core.Bool.{Bool, true, false}
 use lib.Ieee.{Float, lt, le}
-use borrow.Author.Rules.{rules}
 use Rattle.float.specs.Num.{◌⊖◌}
 use Rattle.float.specs.Number.{abs}
 use Rattle.float.specs.Root.{sqrt}
