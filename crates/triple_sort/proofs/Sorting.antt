@@ -1,14 +1,14 @@
 -- The theorem of specs/Sorted.antt: passes over neighbours sort, permute, and keep the order of equals.
 -- After a pass the highest member stands last; it and what follows it are not moved again.
-use Prim.Native.Nat.{ℕ, zero, suc, ◌+◌, ◌-◌, ◌≤◌}
+use Prim.Native.Nat.{ℕ, zero, suc, ◌-◌, ◌≤◌}
 use native.Mathlib.Omega.{arith}
 use mathlib.Core.Path.{◌≡◌, refl, sym, ap, subst, ◌∙◌}
-use mathlib.Core.Bool.{Bool, true, false, cond, not, ◌&&◌, true≢false}
-use mathlib.Core.List.{List, [], ◌∷◌, ◌++◌, append-nil, append_assoc}
+use mathlib.Core.Bool.{Bool, true, false, cond, true≢false}
+use mathlib.Core.List.{List, [], ◌∷◌, ◌++◌, append-nil}
 use lib.ListN.{length}
 use Rattle.solutionset.specs.declared.triples.Triple.{Triple}
 use Rattle.triple_sort.specs.Sort.{triple_above, ordered_above, carry, pass, passes, sort}
-use Rattle.triple_sort.specs.Sorted.{Orders, Every, Sorted, Permuted, none, after, exchange, then, those, level, Sorts, SortSorts, FirstSortSorts, SecondSortSorts}
+use Rattle.triple_sort.specs.Sorted.{Orders, Every, Sorted, Permuted, none, after, exchange, then, those, level, SortSorts, FirstSortSorts, SecondSortSorts}
 use Rattle.triple_sort.specs.declared.Ordered.{Ordered}
 use Rattle.scalar.proofs.Order.{by_test}
 use Rattle.triple_sort.proofs.NumberOrder.{triple_orders, ordered_orders}

@@ -1,4 +1,6 @@
 // The sort of subproblem 5's candidates.
+#![tactic(auto)]
+
 ghost use Rattle.std.specs.Prelude.{◌≡◌, ◌≤◌};
 ghost use Rattle.triple_sort.specs.Port.{at_front, in_order};
 ghost use Rattle.triple_sort.specs.Sort.{number_above, triple_above, ordered_above, pass};

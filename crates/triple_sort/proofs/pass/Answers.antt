@@ -4,9 +4,7 @@ use native.Mathlib.Omega.{arith}
 use mathlib.Core.Path.{◌≡◌, refl, ◌∙◌}
 use mathlib.Core.Bool.{Bool, true, false}
 use mathlib.Core.List.{List}
-use lib.Ieee.{nan}
 use lib.ListN.{length, get_or, set}
-use borrow.Author.Rules.{rules}
 use Rattle.triple_sort.specs.Port.{at_front}
 use Rattle.triple_sort.specs.Sort.{ordered_above, pass}
 use Rattle.triple_sort.specs.declared.Ordered.{Ordered}

@@ -1,17 +1,11 @@
 -- The invariant: what is left of the pass gives what all of it gives.
-use Prim.Native.Nat.{ℕ, suc, ◌+◌, ◌-◌, ◌≤◌, ◌<◌}
-use native.Mathlib.Omega.{arith}
-use mathlib.Core.Path.{◌≡◌, refl, ◌∙◌}
-use mathlib.Core.Bool.{Bool, true, false}
+use Prim.Native.Nat.{ℕ, ◌-◌, ◌≤◌}
+use mathlib.Core.Path.{◌≡◌}
 use mathlib.Core.List.{List}
-use mathlib.Core.Logic.{⊎_elim}
 use lib.Ieee.{nan}
-use lib.ListN.{length, get_or, set}
-use borrow.Author.Rules.{rules}
-use Rattle.triple_sort.specs.Port.{at_front}
-use Rattle.triple_sort.specs.Sort.{ordered_above, pass}
+use Rattle.triple_sort.specs.Sort.{ordered_above}
 use Rattle.triple_sort.specs.declared.Ordered.{Ordered}
-use Rattle.triple_sort.proofs.Passes.{exchange_at, pass_from, pass_is}
+use Rattle.triple_sort.proofs.Passes.{pass_from}
 use Rattle.triple_sort.proofs.pass.Given as goal
 
 abbrev pub outside : Ordered

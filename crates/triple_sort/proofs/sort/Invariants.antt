@@ -1,15 +1,11 @@
 -- The invariant: the passes that are left give what all give.
-use Prim.Native.Nat.{ℕ, suc, ◌+◌, ◌-◌, ◌≤◌, ◌<◌}
-use native.Mathlib.Omega.{arith}
-use mathlib.Core.Path.{◌≡◌, refl, sym, ◌∙◌}
+use Prim.Native.Nat.{ℕ, ◌-◌, ◌≤◌}
+use mathlib.Core.Path.{◌≡◌}
 use mathlib.Core.List.{List}
-use lib.ListN.{length, take, drop, take-append-drop}
-use lib.Seq.{length-take-le}
-use borrow.Author.Rules.{rules}
-use Rattle.triple_sort.specs.Port.{at_front, in_order}
-use Rattle.triple_sort.specs.Sort.{ordered_above, pass, passes, sort}
+use lib.ListN.{length}
+use Rattle.triple_sort.specs.Port.{at_front}
+use Rattle.triple_sort.specs.Sort.{ordered_above, passes}
 use Rattle.triple_sort.specs.declared.Ordered.{Ordered}
-use Rattle.triple_sort.proofs.Passes.{length_pass, length_front_of, pass_more}
 use Rattle.triple_sort.proofs.sort.Given as goal
 
 abbrev pub all : ℕ → ℕ → List Ordered → List Ordered

@@ -1,7 +1,6 @@
 -- The first unequal number decides.
 use mathlib.Core.Path.{◌≡◌}
 use mathlib.Core.Bool.{Bool, true, false}
-use lib.Ieee.{Float}
 use Rattle.solutionset.specs.declared.triples.Triple.{Triple}
 use Rattle.triple_sort.specs.Sort.{number_above, triple_above}
 use Rattle.triple_sort.proofs.triple_above.Goals as goal
