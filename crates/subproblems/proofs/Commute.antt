@@ -1,6 +1,6 @@
 -- A product of two numbers does not depend on their order, and so neither does a dot product.
 use mathlib.Core.Path.{◌≡◌, refl}
-use mathlib.Core.Bool.{Bool, true, false, cond}
+use mathlib.Core.Bool.{Bool, true, false}
 use Prim.Native.Nat.{◌*◌}
 use native.Mathlib.Nat.{mul_comm}
 use lib.Ieee.{Float, nan, inf, fin, up, down, mul, unlike}

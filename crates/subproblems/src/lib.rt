@@ -1,6 +1,8 @@
 // Subproblems 1 to 4 of IK-Geo (subproblems/mod.rs): each function equals its definition in specs/
 // for every f64, and none of the subproblems asks anything of its caller. So too subproblem5,
 // subproblem6 and subproblems_sc, which stand in crates of their own above this one.
+#![tactic(auto)]
+
 pub mod shared;
 mod sp1;
 mod sp2;

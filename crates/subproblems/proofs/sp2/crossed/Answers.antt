@@ -1,12 +1,11 @@
 -- A set that is not empty is one of two once it is doubled.
-use Prim.Native.Nat.{ℕ, ◌<◌}
-use mathlib.Core.Path.{◌≡◌, refl}
+use Prim.Native.Nat.{◌<◌}
+use mathlib.Core.Path.{◌≡◌}
 use native.Mathlib.Omega.{arith}
 use Rattle.solutionset.specs.SolutionSet2.{size, duplicated, expect_two}
 use Rattle.solutionset.specs.declared.pairs.Pair.{Pair}
 use Rattle.solutionset.specs.declared.SolutionSet2.{SolutionSet2}
 use Rattle.solutionset.specs.declared.SolutionSet2.TheVariants.{Zero, One, Two}
-use Rattle.solutionset.specs.declared.pairs.PairSet2.{PairSet2}
 use Rattle.solutionset.specs.declared.pairs.PairSet2.TheVariants as pairs
 use Rattle.subproblems.specs.Subproblem2.{crossed}
 use Rattle.subproblems.proofs.sp2.crossed.Goals as goal

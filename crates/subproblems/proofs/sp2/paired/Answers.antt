@@ -2,7 +2,6 @@
 use Prim.Native.Nat.{ℕ, ◌<◌, ◌≤◌}
 use mathlib.Core.Path.{◌≡◌}
 use lib.Ieee.{Float}
-use borrow.Author.Rules.{rules}
 use borrow.Author.Tests.{lt-ltb, le-ltb}
 use Rattle.solutionset.specs.SolutionSet2.{size, expect_one}
 use Rattle.solutionset.specs.declared.SolutionSet2.{SolutionSet2}
