@@ -4,9 +4,8 @@ use Rattle.std.specs.Float.Ieee.{lt, neg}
 use Rattle.float.specs.Num.{◌⊕◌, ◌⊖◌, ◌⊗◌, ◌⊘◌, nought, one, two}
 use Rattle.float.specs.Root.{sqrt}
 use Rattle.float.specs.declared.sine.SinCos.{SinCos}
-use Rattle.linear.specs.Vector.{dot, cross, norm_squared, ◌-ᵛ◌, negᵛ, scaleᵛ}
+use Rattle.linear.specs.Vector.{dot, cross, norm_squared, ◌-ᵛ◌, scaleᵛ}
 use Rattle.linear.specs.declared.vector.Vector3.{Vector3}
-use Rattle.solutionset.specs.declared.SinCosSet2.{SinCosSet2}
 use Rattle.solutionset.specs.declared.SinCosSet2.TheVariants.{One, Two}
 use Rattle.subproblems.specs.Columns.{columns}
 use Rattle.subproblems.specs.Subproblem1.{subproblem1_is_ls, tolerance}

@@ -1,4 +1,6 @@
 // The forms that give the sine and cosine of an angle in place of the angle.
+#![tactic(auto)]
+
 ghost use Rattle.std.specs.Prelude.{◌≡◌};
 ghost use Rattle.subproblems_sc.specs.SinCosForms.{unit, subproblem1_sc, subproblem3_sc, subproblem4_sc};
 

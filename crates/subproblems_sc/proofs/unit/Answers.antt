@@ -4,7 +4,6 @@ use mathlib.Core.Bool.{true, false}
 use lib.Ieee.{Float, lt}
 use Rattle.float.specs.Num.{◌⊕◌, ◌⊗◌, ◌⊘◌, nought, one}
 use Rattle.float.specs.Root.{sqrt}
-use Rattle.float.specs.declared.sine.SinCos.{SinCos}
 use Rattle.subproblems_sc.specs.SinCosForms.{sc, unit}
 use Rattle.subproblems_sc.proofs.unit.Goals as goal
 
