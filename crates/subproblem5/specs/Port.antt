@@ -1,6 +1,6 @@
 -- What the private functions of src/ give, for their contracts and proofs: no definition cites this file. The port computes what does not depend on h once for each
 -- circle, takes the test on norms by their squares, and keeps lists in slots. That this makes the definitions is proved in proofs/Cut.antt and proofs/InSlots.antt.
-use Rattle.std.specs.Prelude.{ℕ, ◌+◌, Bool, cond, List, [], ◌∷◌, ◌++◌, map, Float, length, set}
+use Rattle.std.specs.Prelude.{◌+◌, Bool, cond, List, [], ◌∷◌, ◌++◌, map, Float, length, set}
 use Rattle.std.specs.Float.Ieee.{lt, neg}
 use Rattle.float.specs.Num.{◌⊖◌, ◌⊗◌, nought, one}
 use Rattle.float.specs.Number.{abs}

@@ -1,6 +1,6 @@
 -- reduced_solutionset, within subproblem5 of subproblems/mod.rs: "Given n >= 4 solutions, return the top 4 most unique".
 -- "subproblem5 has up to 16 candidates; over four, they are sorted and thinned by gap as in reduced_solutionset. The second sort compares the ordering value first, then the triple." (document 01)
-use Rattle.std.specs.Prelude.{ℕ, cond, List, [], ◌∷◌, map, leb, Float, length, take}
+use Rattle.std.specs.Prelude.{cond, List, [], ◌∷◌, map, leb, Float, length, take}
 use Rattle.float.specs.Num.{◌⊖◌, ◌⊗◌, ◌⊘◌, one, infinity}
 use Rattle.solutionset.specs.TripleSet4.{from_vec}
 use Rattle.solutionset.specs.declared.triples.Triple.{Triple}

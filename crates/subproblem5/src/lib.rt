@@ -1,5 +1,7 @@
 // Subproblem 5 (subproblems/mod.rs), and the choice among its candidates: each function equals its
 // definition in specs/ for every f64.
+#![tactic(auto)]
+
 mod reduced;
 mod sp5;
 

@@ -1,12 +1,9 @@
 -- A list of sixteen has four to begin with.
-use Prim.Native.Nat.{ℕ}
 use mathlib.Core.Path.{◌≡◌}
 use mathlib.Core.List.{List, map}
 use lib.Ieee.{nan}
 use lib.ListN.{length, get_or, take}
-use borrow.Author.Rules.{rules}
 use Rattle.solutionset.specs.TripleSet4.{from_vec}
-use Rattle.solutionset.specs.declared.triples.TripleSet4.{TripleSet4}
 use Rattle.solutionset.specs.declared.triples.TripleSet4.TheVariants.{Four}
 use Rattle.subproblem5.specs.Reduced.{solution_of}
 use Rattle.triple_sort.specs.declared.Ordered.{Ordered}

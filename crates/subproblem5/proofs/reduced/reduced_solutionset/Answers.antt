@@ -1,14 +1,13 @@
 -- Up to four as they came. Over four, the first n slots hold at each step the list that the definition has there.
 use Prim.Native.Nat.{ℕ, suc, ◌≤◌, ◌<◌}
 use native.Mathlib.Omega.{arith}
-use mathlib.Core.Path.{◌≡◌, refl, sym, ap, ◌∙◌}
-use mathlib.Core.Bool.{true, false}
+use mathlib.Core.Path.{◌≡◌, refl, ap, ◌∙◌}
+use mathlib.Core.Bool.{false}
 use mathlib.Core.List.{List, [], ◌∷◌, map}
 use lib.Dec.{leb}
 use lib.Ieee.{Float, nan, is_nan, lt, of_bits}
-use lib.ListN.{length, get_or, take, drop, length-take, length-map}
+use lib.ListN.{length, get_or, take, length-take, length-map}
 use lib.Seq.{length-take-le, take-take}
-use borrow.Author.Rules.{rules}
 use borrow.Author.Tests.{le-leb, lt-leb}
 use Rattle.float.specs.Num.{infinity}
 use Rattle.solutionset.specs.TripleSet4.{from_vec}

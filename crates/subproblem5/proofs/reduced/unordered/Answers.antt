@@ -1,5 +1,5 @@
 -- The invariant: the slots passed hold their solutions.
-use Prim.Native.Nat.{ℕ, suc, ◌+◌, ◌-◌, ◌≤◌, ◌<◌}
+use Prim.Native.Nat.{ℕ, ◌+◌, ◌≤◌, ◌<◌}
 use native.Mathlib.Omega.{arith}
 use native.Mathlib.Numerals.{add-one}
 use mathlib.Core.Path.{◌≡◌, refl, ◌∙◌}
@@ -7,7 +7,6 @@ use mathlib.Core.List.{List, [], ◌∷◌, map, map-append}
 use lib.Ieee.{nan}
 use lib.ListN.{length, get_or, set, take, length-set}
 use lib.Seq.{take-suc, take-suc-set}
-use borrow.Author.Rules.{rules}
 use Rattle.solutionset.specs.declared.triples.Triple.{Triple}
 use Rattle.subproblem5.specs.Port.{unordered}
 use Rattle.triple_sort.specs.declared.Ordered.{Ordered}

@@ -4,11 +4,9 @@ use native.Mathlib.Omega.{arith}
 use native.Mathlib.Numerals.{add-one}
 use mathlib.Core.Path.{◌≡◌, refl, ap, ◌∙◌}
 use mathlib.Core.List.{List, [], ◌∷◌}
-use lib.Ieee.{Float, nan}
+use lib.Ieee.{Float}
 use lib.ListN.{length, get_or, set}
-use borrow.Author.Rules.{rules}
-use Rattle.float.specs.Num.{◌⊖◌, ◌⊗◌, ◌⊘◌, one, infinity}
-use Rattle.solutionset.specs.declared.triples.Triple.{Triple}
+use Rattle.float.specs.Num.{infinity}
 use Rattle.triple_sort.specs.Port.{at_front}
 use Rattle.subproblem5.specs.Port.{with_gaps}
 use Rattle.subproblem5.specs.Reduced.{with_ordering}

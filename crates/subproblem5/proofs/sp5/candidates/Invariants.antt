@@ -2,12 +2,11 @@
 use Prim.Native.Nat.{ℕ, ◌+◌, ◌-◌, ◌*◌, ◌≤◌, ◌<◌}
 use native.Mathlib.Omega.{arith}
 use native.Mathlib.Numerals.{add-one}
-use mathlib.Core.Path.{◌≡◌, refl, ap, ◌∙◌}
+use mathlib.Core.Path.{◌≡◌, refl}
 use mathlib.Core.List.{List, [], ◌++◌, flat_map}
 use lib.Ieee.{Float, nan}
 use lib.ListN.{length, get_or, set, take, length-take, length-append}
 use lib.Seq.{take-suc, take_all, get_or-take}
-use borrow.Author.Rules.{rules}
 use Rattle.linear.specs.declared.vector.Vector3.{Vector3}
 use Rattle.solutionset.specs.Slots.{padded}
 use Rattle.solutionset.specs.TripleSet4.{none, slots}

@@ -1,6 +1,6 @@
 -- Each call gives an equation.
 use mathlib.Core.Path.{◌≡◌}
-use lib.Ieee.{Float, of_int, of_bits}
+use lib.Ieee.{of_int, of_bits}
 use Rattle.float.specs.Num.{◌⊖◌, ◌⊗◌, as_f64}
 use Rattle.linear.specs.Vector.{◌-ᵛ◌}
 use Rattle.linear.specs.declared.vector.Vector3.{Vector3}

@@ -1,18 +1,15 @@
 -- Each call gives an equation; the slots hold the list.
-use Prim.Native.Nat.{ℕ, ◌≤◌}
-use mathlib.Core.Path.{◌≡◌, sym, ap, ◌∙◌}
+use Prim.Native.Nat.{ℕ}
+use mathlib.Core.Path.{◌≡◌, ◌∙◌}
 use mathlib.Core.List.{List, flat_map}
-use lib.Ieee.{Float}
-use lib.ListN.{length, take, replicate}
+use lib.ListN.{length, take}
 use lib.Seq.{take-append_seam}
-use borrow.Author.Rules.{rules}
 use Rattle.float.specs.Num.{nought}
 use Rattle.linear.specs.declared.vector.Vector3.{Vector3}
 use Rattle.solutionset.specs.SolutionSet4.{slots}
 use Rattle.solutionset.specs.Slots.{padded}
 use Rattle.solutionset.specs.TripleSet4.{none}
 use Rattle.solutionset.specs.declared.Slots4.{Slots4}
-use Rattle.solutionset.specs.declared.triples.Triple.{Triple}
 use Rattle.solutionset.specs.declared.triples.TripleSet4.{TripleSet4}
 use Rattle.polynomial.specs.Convolution.{cone_polynomials}
 use Rattle.polynomial.specs.declared.Cone.{Cone}
