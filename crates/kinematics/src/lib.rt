@@ -1,5 +1,7 @@
 // The arm as a value, the pose, and forward kinematics: each function equals its definition in
 // specs/. Those that read a list ask for its length; `forward_kinematics` asks nothing.
+#![tactic(auto)]
+
 ghost use Rattle.std.specs.Prelude.{◌≡◌, ◌+◌, ◌≤◌, length};
 ghost use Rattle.kinematics.specs.Kinematics.{vector_at, from_numbers};
 ghost use Rattle.kinematics.specs.Pose.{row_at, pose_rotation, pose_place, rotation, pose, joint, forward_kinematics};

@@ -1,11 +1,8 @@
 -- Thirteen calls, a vector each: that each is within the list follows from its length.
-use Prim.Native.Nat.{ℕ, ◌+◌, ◌≤◌}
 use mathlib.Core.Path.{◌≡◌}
 use mathlib.Core.List.{List}
 use native.Mathlib.Omega.{arith}
-use borrow.Author.Rules.{rules}
 use lib.Ieee.{Float}
-use lib.ListN.{length}
 use Rattle.linear.specs.declared.vector.Vector3.{Vector3}
 use Rattle.kinematics.specs.Kinematics.{vector_at, from_numbers}
 use Rattle.kinematics.specs.declared.Kinematics.{Kinematics}

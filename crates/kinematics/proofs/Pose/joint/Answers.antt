@@ -1,6 +1,5 @@
 -- The calls' equations, one after another.
 use mathlib.Core.Path.{◌≡◌}
-use mathlib.Core.List.{List}
 use lib.Ieee.{Float}
 use Rattle.linear.specs.Matrix.{Matrix, product, apply, rot}
 use Rattle.linear.specs.Vector.{◌+ᵛ◌}
