@@ -1,4 +1,6 @@
 // Subproblem 6 (subproblems/mod.rs): each function equals its definition in specs/ for every f64.
+#![tactic(auto)]
+
 mod sp6;
 
 use qr::Vector4;

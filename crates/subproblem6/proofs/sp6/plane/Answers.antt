@@ -1,6 +1,5 @@
 -- Two calls.
 use mathlib.Core.Path.{◌≡◌}
-use lib.Ieee.{Float}
 use Rattle.float.specs.Num.{◌⊕◌, ◌⊗◌}
 use Rattle.qr.specs.Qr.{qr}
 use Rattle.polynomial.specs.Triangular.{solve_lower_triangular_system_2x2}

@@ -1,6 +1,5 @@
 -- A lemma for each arm: the set is the constructor at its pairs, and the definition computes there.
 use mathlib.Core.Path.{◌≡◌}
-use borrow.Author.Rules.{rules}
 use Rattle.solutionset.specs.declared.pairs.Pair.{Pair}
 use Rattle.solutionset.specs.declared.pairs.PairSet4.{PairSet4}
 use Rattle.solutionset.specs.declared.pairs.PairSet4.TheVariants.{One, Two, Three, Four}
