@@ -1,5 +1,7 @@
 // forward_kinematics_partial of inverse_kinematics/auxiliary.rs: an arm of seven axes with one joint
 // locked is an arm of six.
+#![tactic(auto)]
+
 ghost use Rattle.std.specs.Prelude.{◌≡◌, ◌≤◌, length};
 ghost use Rattle.partial.specs.Partial.{kin_new, locked_rotation, forward_kinematics_partial};
 ghost use Rattle.partial.specs.Columns.{axis, offset, axes, offsets};

@@ -1,14 +1,10 @@
 -- As it is before the locked joint, turned behind it.
-use Prim.Native.Nat.{ℕ, ◌+◌, ◌*◌, ◌≤◌, ◌<◌}
-use mathlib.Core.Path.{◌≡◌, refl, sym, ap}
+use Prim.Native.Nat.{ℕ, ◌+◌, ◌≤◌, ◌<◌}
+use mathlib.Core.Path.{◌≡◌}
 use mathlib.Core.List.{List}
-use native.Mathlib.Omega.{arith}
-use borrow.Author.Rules.{rules}
-use borrow.Author.Tests.{lt-ltb, le-ltb, eq-eqb, ne_eqb}
+use borrow.Author.Tests.{lt-ltb, le-ltb}
 use lib.Ieee.{Float}
-use lib.ListN.{length}
 use Rattle.linear.specs.Matrix.{Matrix, apply}
-use Rattle.linear.specs.Vector.{◌+ᵛ◌}
 use Rattle.linear.specs.declared.vector.Vector3.{Vector3}
 use Rattle.partial.specs.Partial.{h}
 use Rattle.partial.specs.Columns.{axis}
