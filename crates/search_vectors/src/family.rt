@@ -26,11 +26,9 @@ fn check_answers(
 )
     requires { m ≤ 17600 }
 {
-    let mut j = 0usize;
-    while j < m {
+    for j in 0..m {
         let ok = is_answer(book, j, angles, flags[j]);
         cases::count(tally, record::CHECKS, record::ANSWERS, ok);
-        j += 1;
     }
 }
 

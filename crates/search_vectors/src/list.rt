@@ -13,11 +13,9 @@ fn check_pairs(
 )
     requires { m ≤ 17600 }
 {
-    let mut j = 0usize;
-    while j < m {
+    for j in 0..m {
         let ok = record::is_pair(book, j, qs[j], cs[j]);
         cases::count(tally, record::CHECKS, record::PAIR, ok);
-        j += 1;
     }
 }
 

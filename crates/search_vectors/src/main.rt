@@ -7,6 +7,8 @@
 // - the answers of family 6.
 // tools/make/make_search_vectors.sh made the stored searches;
 // tools/compare/compare_search.sh runs others.
+#![tactic(auto)]
+
 mod family;
 mod list;
 mod parts;
@@ -16,7 +18,8 @@ mod rows;
 
 ghost use Rattle.std.specs.Prelude.{◌≤◌, length};
 
-use libc::STDOUT_FILENO;
+use std::io;
+use std::io::{Stdin, Stdout};
 
 const MOST_PAIRS: u64 = 17600;
 
@@ -51,16 +54,21 @@ fn refuse(tally: &mut [u64; 64]) -> bool {
 }
 
 // Reads the pairs of a search, which take so many bytes.
-fn read_pairs(book: &mut [u8], end: usize, tally: &mut [u64; 64]) -> bool
+fn read_pairs(input: &mut Stdin, book: &mut [u8], end: usize, tally: &mut [u64; 64]) -> bool
     requires { end ≤ length book.old }
 {
-    cases::next(&mut book[0..end], tally)
+    cases::next(input, &mut book[0..end], tally)
 }
 
 // Checks one search, and answers whether there was a whole one.
-fn check(book: &mut [u8; 1830400], tally: &mut [u64; 64], most: &mut [u64; 2]) -> bool {
+fn check(
+    input: &mut Stdin,
+    book: &mut [u8; 1830400],
+    tally: &mut [u64; 64],
+    most: &mut [u64; 2],
+) -> bool {
     let mut head = [0u8; 432];
-    if !cases::next(&mut head, tally) {
+    if !cases::next(input, &mut head, tally) {
         return false;
     }
     let n = cases::word(&head, record::N);
@@ -71,47 +79,52 @@ fn check(book: &mut [u8; 1830400], tally: &mut [u64; 64], most: &mut [u64; 2]) -
     if m > MOST_PAIRS {
         return refuse(tally);
     }
-    if !read_pairs(book, 104 * (m as usize), tally) {
+    if !read_pairs(input, book, 104 * (m as usize), tally) {
         return refuse(tally);
     }
     check_search(&head, book, n as usize, m as usize, tally, most);
     true
 }
 
-// Input of any length: the count of turns is one that no run uses up.
-fn check_all(book: &mut [u8; 1830400], tally: &mut [u64; 64], most: &mut [u64; 2]) {
-    let mut turns = u64::MAX;
-    while turns > 0 && check(book, tally, most) {
-        turns -= 1;
+// Input of any length: no run uses up the turns.
+fn check_all(
+    input: &mut Stdin,
+    book: &mut [u8; 1830400],
+    tally: &mut [u64; 64],
+    most: &mut [u64; 2],
+) {
+    for _ in 0..u64::MAX {
+        if !check(input, book, tally, most) {
+            return;
+        }
     }
 }
 
-fn report(tally: &[u64; 64]) {
-    cases::line(b"searches", tally, 0);
-    cases::line(b"pairs", tally, 1);
-    cases::line(b"parts", tally, 2);
-    cases::line(b"rows", tally, 3);
-    cases::line(b"places", tally, 4);
-    cases::line(b"crossings", tally, 5);
-    cases::line(b"solves", tally, 6);
-    cases::line(b"answers", tally, 7);
-    cases::end(tally);
+fn report(out: &Stdout, tally: &[u64; 64]) -> io::Result<()> {
+    cases::line(out, b"searches", tally, 0)?;
+    cases::line(out, b"pairs", tally, 1)?;
+    cases::line(out, b"parts", tally, 2)?;
+    cases::line(out, b"rows", tally, 3)?;
+    cases::line(out, b"places", tally, 4)?;
+    cases::line(out, b"crossings", tally, 5)?;
+    cases::line(out, b"solves", tally, 6)?;
+    cases::line(out, b"answers", tally, 7)?;
+    cases::end(out, tally)
 }
 
 // Of the port's searches.
-fn report_most(most: &[u64; 2]) {
-    io::write_all(STDOUT_FILENO, b"most pairs ");
-    io::print_decimal(STDOUT_FILENO, most[0]);
-    io::write_all(STDOUT_FILENO, b" evaluations ");
-    io::print_decimal(STDOUT_FILENO, most[1]);
-    io::write_all(STDOUT_FILENO, b"\n");
+fn report_most(out: &Stdout, most: &[u64; 2]) -> io::Result<()> {
+    let pairs = most[0];
+    let evals = most[1];
+    println!(out; "most pairs {pairs} evaluations {evals}")
 }
 
-fn main() {
+fn main(rt: HostRuntime) -> io::Result<()> {
+    let out = rt.stdout();
     let mut book = [0u8; 1830400];
     let mut tally = [0u64; 64];
     let mut most = [0u64; 2];
-    check_all(&mut book, &mut tally, &mut most);
-    report(&tally);
-    report_most(&most);
+    check_all(&mut rt.stdin(), &mut book, &mut tally, &mut most);
+    report(&out, &tally)?;
+    report_most(&out, &most)
 }

@@ -18,12 +18,10 @@ fn check_rows(
 )
     requires { m ≤ 17600 }
 {
-    let mut j = 0usize;
-    while j < m {
+    for j in 0..m {
         let is_row = record::word(book, j, record::ROW) == rows[j];
         let ok = is_row && record::is_pair(book, j, qs[j], cs[j]);
         cases::count(tally, record::CHECKS, record::ROWS, ok);
-        j += 1;
     }
 }
 
@@ -32,15 +30,13 @@ fn stored_crossings(book: &[u8; 1830400], m: usize, i: u64) -> u64
     requires { m ≤ 17600 }
 {
     let mut count = 0u64;
-    let mut j = 0usize;
-    while j < m {
+    for j in 0..m {
         let is_i = record::word(book, j, record::COMPONENT) == i;
         let is_grid = record::word(book, j, record::ROW) == 0;
         let is_crossing = record::word(book, j, record::PLACE) == 0;
         if is_i && is_grid && is_crossing {
-            count = std::num::wrapping_add_u64(count, 1);
+            count = count.wrapping_add(1);
         }
-        j += 1;
     }
     count
 }
@@ -54,12 +50,10 @@ fn crossings(ys: &[f64; 401], n: usize) -> u64
     requires { n ≤ 400 }
 {
     let mut count = 0u64;
-    let mut k = 0usize;
-    while k < n {
+    for k in 0..n {
         if crosses(ys[k], ys[k + 1]) {
-            count = std::num::wrapping_add_u64(count, 1);
+            count = count.wrapping_add(1);
         }
-        k += 1;
     }
     count
 }
@@ -79,13 +73,11 @@ fn check_places(
 {
     let ok = crossings(ys, n) == stored_crossings(book, m, i as u64);
     cases::count(tally, record::CHECKS, record::CROSSINGS, ok);
-    let mut j = 0usize;
-    while j < m {
+    for j in 0..m {
         if record::word(book, j, record::COMPONENT) == i as u64 {
             let is = place::right(fixed, i, n, xs, ys, book, j);
             cases::count(tally, record::CHECKS, record::PLACES, is);
         }
-        j += 1;
     }
 }
 

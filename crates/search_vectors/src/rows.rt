@@ -27,10 +27,8 @@ fn set_row(rows: &mut [u64; 17600], j: usize, row: u64) {
 
 // The pairs from `from` to before `to` are the row's.
 fn mark(rows: &mut [u64; 17600], from: usize, to: usize, row: u64) {
-    let mut j = from;
-    while j < to {
+    for j in from..to {
         set_row(rows, j, row);
-        j += 1;
     }
 }
 
@@ -87,10 +85,8 @@ pub(crate) fn component(
     requires { (i < 4) × (n ≤ 400) }
 {
     let mut g = grid(fixed, i, n, xs, ys, qs, cs, rows, f);
-    let mut k = 0usize;
-    while k < n {
+    for k in 0..n {
         g = edge(fixed, i, k, xs, ys, qs, cs, rows, g);
-        k += 1;
     }
     g
 }
