@@ -19,7 +19,7 @@ for cell in re.findall(r"[^|\n]+", text):
         words = set(re.findall(r"[\w-]+", file.read_text()))
         wrong += [f"{path}: no {name}" for name in re.findall(r"`([\w-]+)`", names) if name not in words]
 tests = (top / "crates.txt").read_text().split("# ---- tests")
-for crate in re.findall(r"^(\w+):", tests[0], re.M):
+for crate in re.findall(r"^(\w+)(?: staticlib)?:", tests[0], re.M):
     if not re.search(rf"\b{crate}\b", text):
         wrong.append(f"{crate}: not on the map")
 print("\n".join(wrong) or "docs/MAP.md is true of the tree")
