@@ -1,7 +1,7 @@
 -- Document 01: "Elements past the last written answer keep their values, always." So it is for every function that promises `Wrote`, and for lists of every length, 0 included.
 use Prim.Native.Nat.{ℕ, ◌*◌}
 use mathlib.Core.Path.{◌≡◌, ap, ◌∙◌}
-use mathlib.Core.List.{List, ◌++◌, map, flat_map}
+use mathlib.Core.List.{List, map, flat_map}
 use lib.Ieee.{Float}
 use lib.ListN.{length, take, drop, length-map}
 use lib.Seq.{take_at, drop_at}

@@ -1,9 +1,9 @@
 -- The laws of Rows.antt for answers of six numbers.
-use Prim.Native.Nat.{ℕ, ◌+◌, ◌*◌, ◌≤◌}
+use Prim.Native.Nat.{ℕ, ◌*◌, ◌≤◌}
 use mathlib.Core.Path.{◌≡◌, refl}
-use mathlib.Core.List.{List, [], ◌∷◌, ◌++◌, map, flat_map}
+use mathlib.Core.List.{List, [], ◌++◌, map, flat_map}
 use lib.Ieee.{Float}
-use lib.ListN.{length, take, drop}
+use lib.ListN.{length, drop}
 use Rattle.answers.specs.Answer.{six, byte}
 use Rattle.answers.specs.Written.{sixes, room, written, flagged, Wrote}
 use Rattle.answers.specs.declared.Answer.{Answer}

@@ -1,10 +1,10 @@
 -- One answer: it fits both lists, or one of them is too short. For rows of six and of seven.
-use Prim.Native.Nat.{ℕ, ◌+◌, ◌*◌, ◌≤◌}
+use Prim.Native.Nat.{ℕ, ◌+◌, ◌≤◌}
 use mathlib.Core.Path.{◌≡◌, refl}
 use mathlib.Core.List.{List, [], ◌∷◌, flat_map, append-nil}
 use native.Mathlib.Omega.{arith}
 use lib.Ieee.{Float}
-use lib.ListN.{length, set, drop}
+use lib.ListN.{length, set}
 use lib.Seq.{sets, sets-eq, set_split, take_all}
 use Rattle.answers.specs.Answer.{byte}
 use Rattle.answers.specs.Rows.{Form, room_of, fitting_of, written_of, flagged_of, WroteOf}

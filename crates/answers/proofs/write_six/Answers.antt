@@ -1,7 +1,6 @@
 -- Six stores, each within the list.
 use native.Mathlib.Omega.{arith}
 use lib.ListN.{length-set}
-use borrow.Author.Rules.{rules}
 use Rattle.answers.proofs.write_six.Goals as goal
 
 pub bounds-angles-1 : goal.bounds-angles-1
