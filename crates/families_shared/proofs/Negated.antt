@@ -1,12 +1,11 @@
 -- An axis and its negation have exactly negated normalised parts: rounding to nearest does not depend on the sign.
-use Prim.Native.Nat.{ℕ, zero, suc, ◌+◌, ◌*◌, ◌<◌, ◌^◌}
+use Prim.Native.Nat.{ℕ, zero, suc, ◌+◌, ◌*◌, ◌^◌}
 use mathlib.Core.Path.{◌≡◌, refl}
 use mathlib.Core.Bool.{Bool, true, false, cond, not}
 use lib.Dec.{eqb, ltb}
 use lib.Ieee.{Float, nan, inf, fin, Format, binary64, prec, low, emax, up, down, unlike, odd, units, round, neg, mul, div}
-use Rattle.float.specs.Num.{◌⊕◌, ◌⊗◌, ◌⊘◌}
-use Rattle.float.specs.Root.{sqrt}
-use Rattle.linear.specs.Vector.{dot, norm, normalize, negᵛ, overᵛ}
+use Rattle.float.specs.Num.{◌⊗◌, ◌⊘◌}
+use Rattle.linear.specs.Vector.{norm, normalize, negᵛ}
 use Rattle.linear.specs.declared.vector.Vector3.{Vector3}
 
 unlike_left : (s t : Bool) → unlike (not s) t ≡ not (unlike s t)

@@ -1,4 +1,6 @@
 // What the families share: the axes normalised once, rotations about them, p_16, and flags joined.
+#![tactic(auto)]
+
 ghost use Rattle.std.specs.Prelude.{◌≡◌, ◌||◌};
 ghost use Rattle.linear.specs.Matrix.{rot, product};
 ghost use Rattle.linear.specs.Vector.{normalize, negᵛ};
