@@ -1,4 +1,6 @@
 // The end of the three families with a spherical wrist.
+#![tactic(auto)]
+
 ghost use Rattle.std.specs.Prelude.{◌≡◌};
 ghost use Rattle.linear.specs.Matrix.{apply, transpose};
 ghost use Rattle.answers.specs.Written.{Wrote};

@@ -1,16 +1,12 @@
 -- For each q5, what `wrist_q5` writes.
-use Prim.Native.Nat.{ℕ, ◌-◌, ◌≤◌}
-use mathlib.Core.Path.{◌≡◌, refl}
+use Prim.Native.Nat.{ℕ, ◌≤◌}
+use mathlib.Core.Path.{◌≡◌}
 use mathlib.Core.Bool.{Bool, ◌||◌}
-use mathlib.Core.List.{List, [], ◌∷◌, flat_map}
+use mathlib.Core.List.{List}
 use native.Mathlib.Omega.{arith}
-use borrow.Author.Rules.{rules}
 use lib.Ieee.{Float}
-use lib.ListN.{length}
-use Rattle.float.specs.Num.{nought}
 use Rattle.linear.specs.Matrix.{Matrix}
 use Rattle.solutionset.specs.SolutionSet2.{get_all}
-use Rattle.solutionset.specs.declared.SolutionSet2.{SolutionSet2}
 use Rattle.subproblems.specs.declared.Solved2.{Solved2}
 use Rattle.kinematics.specs.declared.Kinematics.{Kinematics}
 use Rattle.answers.specs.Written.{Wrote}

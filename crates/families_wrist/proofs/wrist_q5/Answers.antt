@@ -3,7 +3,6 @@ use Prim.Native.Nat.{ℕ}
 use mathlib.Core.Path.{◌≡◌, ap}
 use mathlib.Core.Bool.{Bool, ◌||◌}
 use mathlib.Core.List.{List, [], ◌∷◌}
-use borrow.Author.Rules.{rules}
 use lib.Ieee.{Float}
 use Rattle.linear.specs.Matrix.{Matrix, apply, transpose, rot}
 use Rattle.linear.specs.Vector.{negᵛ}
@@ -12,7 +11,6 @@ use Rattle.subproblems.specs.Subproblem1.{subproblem1_within}
 use Rattle.subproblems.specs.declared.Solved1.{Solved1}
 use Rattle.kinematics.specs.declared.Kinematics.{Kinematics}
 use Rattle.answers.specs.Written.{Wrote}
-use Rattle.answers.specs.declared.Answer.{Answer}
 use Rattle.answers.proofs.Laws.{by_name}
 use Rattle.families_wrist.specs.Wrist.{wrist_q5}
 use Rattle.families_shared.specs.declared.Units.{Units}
