@@ -1,4 +1,6 @@
 // What the two families with three parallel axes share.
+#![tactic(auto)]
+
 ghost use Rattle.std.specs.Prelude.{◌≡◌};
 ghost use Rattle.float.specs.Num.{◌⊖◌};
 ghost use Rattle.float.specs.Wrap.{wrap_to_pi};

@@ -1,21 +1,8 @@
 -- For each q3, what `elbow_q3` writes.
-use Prim.Native.Nat.{ℕ, ◌-◌, ◌≤◌}
-use mathlib.Core.Path.{◌≡◌}
-use mathlib.Core.Bool.{Bool, ◌||◌}
-use mathlib.Core.List.{List}
-use native.Mathlib.Omega.{arith}
-use borrow.Author.Rules.{rules}
-use lib.Ieee.{Float}
-use Rattle.linear.specs.declared.vector.Vector3.{Vector3}
+use Prim.Native.Nat.{◌-◌}
 use Rattle.solutionset.specs.SolutionSet2.{get_all}
-use Rattle.subproblems.specs.declared.Solved2.{Solved2}
-use Rattle.kinematics.specs.declared.Kinematics.{Kinematics}
-use Rattle.answers.specs.Written.{Wrote}
-use Rattle.answers.proofs.Laws.{by_name}
-use Rattle.answers.proofs.Steps.{Steps, start, again, small_sum, end, angles_kept, flags_kept}
-use Rattle.families_elbow.specs.Elbow.{theta3, elbow_q3, elbow}
-use Rattle.families_shared.proofs.Few.{few_of}
-use Rattle.families_elbow.proofs.Few.{elbow_q3_few}
+use Rattle.answers.proofs.Steps.{Steps}
+use Rattle.families_elbow.specs.Elbow.{elbow_q3}
 use Rattle.families_elbow.proofs.elbow.Given as goal
 
 abbrev pub invariant-loop-i : goal.invariant-loop-i

@@ -3,7 +3,6 @@ use Prim.Native.Nat.{ℕ}
 use mathlib.Core.Path.{◌≡◌, ap}
 use mathlib.Core.Bool.{Bool, ◌||◌}
 use mathlib.Core.List.{List, [], ◌∷◌}
-use borrow.Author.Rules.{rules}
 use lib.Ieee.{Float}
 use Rattle.float.specs.Num.{◌⊖◌}
 use Rattle.float.specs.Wrap.{wrap_to_pi}
@@ -14,7 +13,6 @@ use Rattle.subproblems.specs.Subproblem1.{subproblem1_within}
 use Rattle.subproblems.specs.declared.Solved1.{Solved1}
 use Rattle.kinematics.specs.declared.Kinematics.{Kinematics}
 use Rattle.answers.specs.Written.{Wrote}
-use Rattle.answers.specs.declared.Answer.{Answer}
 use Rattle.answers.proofs.Laws.{by_name}
 use Rattle.families_elbow.specs.Elbow.{elbow_q3}
 use Rattle.families_shared.specs.declared.Units.{Units}
