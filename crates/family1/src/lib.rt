@@ -1,4 +1,6 @@
 // Family 1: spherical_two_parallel.
+#![tactic(auto)]
+
 ghost use Rattle.std.specs.Prelude.{◌≡◌};
 ghost use Rattle.linear.specs.Matrix.{apply, rot};
 ghost use Rattle.linear.specs.Vector.{◌+ᵛ◌, negᵛ};
