@@ -8,7 +8,6 @@ use Rattle.linear.specs.declared.vector.Vector3.{Vector3}
 use Rattle.solutionset.specs.declared.pairs.Pair.{Pair}
 use Rattle.kinematics.specs.declared.Kinematics.{Kinematics}
 use Rattle.answers.proofs.Steps.{at_most}
-use Rattle.families_shared.specs.Place.{p_16}
 use Rattle.families_wrist.specs.Wrist.{r_36}
 use Rattle.family2.specs.SphericalTwoIntersecting as F2
 use Rattle.families_shared.proofs.Few.{few2, few_pairs2}

@@ -1,4 +1,6 @@
 // Family 2: spherical_two_intersecting.
+#![tactic(auto)]
+
 ghost use Rattle.std.specs.Prelude.{◌≡◌};
 ghost use Rattle.linear.specs.Matrix.{rot};
 ghost use Rattle.linear.specs.Vector.{negᵛ};
