@@ -1,4 +1,6 @@
 // Family 3: spherical.
+#![tactic(auto)]
+
 ghost use Rattle.std.specs.Prelude.{◌≡◌};
 ghost use Rattle.answers.specs.Written.{Wrote};
 ghost use Rattle.families_shared.specs.Units.{units};
