@@ -1,4 +1,6 @@
 // Family 4: three_parallel_two_intersecting.
+#![tactic(auto)]
+
 ghost use Rattle.std.specs.Prelude.{◌≡◌};
 ghost use Rattle.linear.specs.Matrix.{product, apply, transpose, rot};
 ghost use Rattle.linear.specs.Vector.{◌+ᵛ◌, ◌-ᵛ◌};

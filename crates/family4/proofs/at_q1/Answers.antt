@@ -1,10 +1,9 @@
 -- For each q5, what `at_q5` writes.
-use Prim.Native.Nat.{ℕ, ◌-◌, ◌≤◌}
+use Prim.Native.Nat.{ℕ, ◌≤◌}
 use mathlib.Core.Path.{◌≡◌, ap}
 use mathlib.Core.Bool.{Bool}
 use mathlib.Core.List.{List}
 use native.Mathlib.Omega.{arith}
-use borrow.Author.Rules.{rules}
 use lib.Ieee.{Float}
 use Rattle.linear.specs.Matrix.{Matrix, rot}
 use Rattle.linear.specs.declared.vector.Vector3.{Vector3}
