@@ -1,4 +1,6 @@
 // Family 5: three_parallel.
+#![tactic(auto)]
+
 ghost use Rattle.std.specs.Prelude.{◌≡◌};
 ghost use Rattle.linear.specs.Matrix.{product, apply, transpose};
 ghost use Rattle.linear.specs.Vector.{◌-ᵛ◌};
