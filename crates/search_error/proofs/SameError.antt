@@ -1,7 +1,6 @@
 -- The error with its constants computed once is the error of the definition, as a function of the component and the angle. Assumes nothing.
-use mathlib.Core.Path.{◌≡◌, refl, sym, ◌∙◌, ap, ap₂}
-use mathlib.Core.List.{List, map}
-use Prim.Native.Nat.{ℕ}
+use mathlib.Core.Path.{◌≡◌, refl}
+use mathlib.Core.List.{map}
 use lib.Ieee.{Float, nan}
 use lib.ListN.{get_or, replicate}
 use lib.Seq.{sets}
@@ -10,7 +9,6 @@ use Rattle.linear.specs.Matrix.{Matrix, row, array3, product, row_apply, rot}
 use Rattle.linear.specs.declared.vector.Vector3.{Vector3}
 use Rattle.solutionset.specs.PairSet4.{get_all}
 use Rattle.solutionset.specs.declared.pairs.Pair.{Pair}
-use Rattle.solutionset.specs.declared.pairs.PairSet4.{PairSet4}
 use Rattle.subproblems.specs.Subproblem1.{subproblem1_within, subproblem1}
 use Rattle.kinematics.specs.declared.Kinematics.{Kinematics}
 use Rattle.search_error.specs.Error as Plain

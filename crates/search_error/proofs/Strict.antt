@@ -2,23 +2,22 @@
 -- A q1 that is not finite has no sine, so the first entry of its rotation is a NaN, and so is every number that the error is made of. Assumes nothing.
 use mathlib.Core.Logic.{◌≢◌}
 use mathlib.Core.Path.{◌≡◌, refl, sym, ◌∙◌, ap}
-use mathlib.Core.Bool.{Bool, true, false, cond, true≢false}
+use mathlib.Core.Bool.{Bool, true, false, true≢false}
 use mathlib.Core.List.{List, [], ◌∷◌, map}
 use Prim.Native.Nat.{ℕ, zero, suc, ◌+◌, ◌≤◌, ◌<◌}
 use native.Mathlib.Omega.{arith}
-use native.Mathlib.Nat.{not-suc-le-zero}
 use native.Mathlib.Decide.{ℕ_discrete, dec_lt}
-use lib.Ieee.{Float, nan, inf, fin, binary64, add, sub, mul, div}
+use lib.Ieee.{Float, nan, inf, fin, add, sub, mul, div}
 use lib.ListN.{length, get_or, set, replicate, length-map}
 use lib.Seq.{sets, get_or-set_same, get_or-set_other, set_out}
 use Rattle.float.specs.Num.{◌⊕◌, ◌⊖◌, ◌⊗◌, ◌⊘◌, infinity}
 use Rattle.float.specs.Number.{is_finite}
 use Rattle.root.specs.Root.{sqrt}
 use Rattle.float.specs.Sine.{sin}
-use Rattle.linear.specs.Vector.{norm, ◌-ᵛ◌}
+use Rattle.linear.specs.Vector.{norm}
 use Rattle.linear.specs.Matrix.{Matrix, part, row, apply, transpose, rodrigues, rot_unit, rot}
 use Rattle.linear.specs.declared.vector.Vector3.{Vector3}
-use Rattle.solutionset.specs.PairSet4.{get_all, size}
+use Rattle.solutionset.specs.PairSet4.{get_all}
 use Rattle.solutionset.specs.declared.pairs.Pair.{Pair}
 use Rattle.kinematics.specs.declared.Kinematics.{Kinematics}
 use Rattle.search_definition.specs.Demand.{Strict}

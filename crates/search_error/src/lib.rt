@@ -1,5 +1,7 @@
 // The error of two_parallel (inverse_kinematics/mod.rs) as a named function of what the arm and the pose
 // give, and of q1. What does not depend on q1 is computed once.
+#![tactic(auto)]
+
 ghost use Rattle.std.specs.Prelude.{◌≡◌, ◌<◌};
 ghost use Rattle.search_error.specs.Error as Plain;
 ghost use Rattle.search_error.specs.Fixed.{fixed, rotation, given_q1, rotation_given_q1, t64, t23, gap, answer_error, error_of, error_at};

@@ -1,7 +1,6 @@
 -- `search_error::error_at` meets its contract. Assumes nothing.
 use mathlib.Core.Path.{ap}
 use mathlib.Core.List.{List}
-use borrow.Author.Rules.{rules}
 use lib.Ieee.{Float, nan}
 use lib.ListN.{get_or}
 use Rattle.search_error.specs.Fixed.{error_at}

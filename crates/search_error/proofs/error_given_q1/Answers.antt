@@ -1,7 +1,6 @@
 -- `search_error::error_given_q1` meets its contract. Assumes nothing.
 use mathlib.Core.Path.{◌≡◌}
-use mathlib.Core.List.{List, [], ◌∷◌}
-use borrow.Author.Rules.{rules}
+use mathlib.Core.List.{[], ◌∷◌}
 use lib.Ieee.{Float}
 use Rattle.float.specs.Num.{infinity}
 use Rattle.solutionset.specs.declared.pairs.Pair.{Pair}

@@ -1,6 +1,5 @@
 -- `search_error::Fixed::given_q1` meets its contract. Assumes nothing.
 use mathlib.Core.Path.{◌≡◌}
-use borrow.Author.Rules.{rules}
 use lib.Ieee.{Float}
 use Rattle.linear.specs.Vector.{◌-ᵛ◌}
 use Rattle.linear.specs.Matrix.{Matrix, row, product, apply, row_apply, transpose, rot_unit}

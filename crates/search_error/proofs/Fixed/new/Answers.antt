@@ -1,6 +1,5 @@
 -- `search_error::Fixed::new` meets its contract. Assumes nothing.
 use mathlib.Core.Path.{◌≡◌}
-use borrow.Author.Rules.{rules}
 use lib.Ieee.{Float}
 use Rattle.linear.specs.Vector.{norm, normalize, negᵛ}
 use Rattle.linear.specs.Matrix.{Matrix, row}
