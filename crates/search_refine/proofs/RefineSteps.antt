@@ -1,10 +1,9 @@
 -- One step of refine_bracket, by what the code's tests and calls gave. Assumes nothing.
 use mathlib.Core.Path.{◌≡◌, refl, sym, ◌∙◌, ap}
-use mathlib.Core.Bool.{Bool, true, false, not, ◌||◌, cond, beq}
+use mathlib.Core.Bool.{Bool, true, false, ◌||◌, cond, beq}
 use mathlib.Core.List.{[], ◌∷◌}
 use Prim.Native.Nat.{ℕ}
 use lib.Dec.{eqb}
-use borrow.Author.Tests.{not-true, not-false}
 use lib.Ieee.{Float, lt}
 use Rattle.float.specs.Num.{◌⊖◌, ◌⊗◌}
 use Rattle.float.specs.Number.{abs, is_finite}
