@@ -1,5 +1,5 @@
 -- What the code holds of a search, in the definition's words: rows of samples, and the two lent lists with what is written there.
-use Rattle.std.specs.Prelude.{List, [], ◌∷◌, ◌++◌, map, ◌≡◌, ℕ, zero, suc, ◌+◌, ◌<◌, length, get_or, Float}
+use Rattle.std.specs.Prelude.{List, [], ◌∷◌, ◌++◌, map, ℕ, zero, suc, ◌+◌, length, get_or, Float}
 use Rattle.std.proofs.lemmas.List.Edits.{sets}
 use Rattle.std.specs.Float.{nan}
 use Rattle.search_definition.specs.Found.{Entry, Out, component}

@@ -1,5 +1,7 @@
 // The pairs (q1, i) that the search lists: they go into two lists that the caller lends, angles and
 // components.
+#![tactic(auto)]
+
 ghost use Rattle.std.specs.Prelude.{◌≡◌, ◌<◌, ◌≤◌, set};
 ghost use Rattle.search_definition.specs.Found.{Origin, component};
 ghost use Rattle.search_definition.specs.Dip.{entry, refined};

@@ -1,7 +1,6 @@
 -- `search_pairs::put_angle` meets its contract. Assumes nothing.
 use mathlib.Core.Path.{sym}
 use lib.Seq.{set_out}
-use borrow.Author.Rules.{rules}
 use Rattle.search_pairs.proofs.put_angle.Goals as goal
 
 pub returns-else-at-qs : goal.returns-else-at-qs

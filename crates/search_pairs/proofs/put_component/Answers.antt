@@ -1,7 +1,6 @@
 -- `search_pairs::put_component` meets its contract. Assumes nothing.
 use mathlib.Core.Path.{sym}
 use lib.Seq.{set_out}
-use borrow.Author.Rules.{rules}
 use Rattle.search_pairs.proofs.put_component.Goals as goal
 
 pub returns-else-at-cs : goal.returns-else-at-cs

@@ -1,5 +1,4 @@
 -- `search_pairs::put_pair` meets its contract. Assumes nothing.
-use borrow.Author.Rules.{rules}
 use Rattle.search_pairs.specs.State.{state}
 use Rattle.search_pairs.proofs.States.{after_entry}
 use Rattle.search_pairs.proofs.put_pair.Goals as goal

@@ -1,7 +1,6 @@
 -- `search_pairs::put_refined` meets its contract. Assumes nothing.
 use mathlib.Core.Path.{ap}
 use native.Mathlib.Omega.{arith}
-use borrow.Author.Rules.{rules}
 use Rattle.search_definition.proofs.Bounds.{refine_asks}
 use Rattle.search_error.specs.Fixed.{error_at}
 use Rattle.search_refine.specs.Counted.{evals_of}
