@@ -1,5 +1,4 @@
 -- `depth` meets its contract. Assumes nothing.
-use borrow.Author.Rules.{rules}
 use Rattle.search_dip.proofs.DipSteps.{depth_finite, depth_infinite}
 use Rattle.search_dip.proofs.dip.depth.Goals as goal
 

@@ -1,12 +1,8 @@
 -- `lowest` meets its contract. Assumes nothing.
-use mathlib.Core.Path.{ap}
 use Prim.Native.Nat.{◌+◌, ◌-◌, ◌≤◌}
-use native.Mathlib.Omega.{arith}
-use borrow.Author.Rules.{rules}
 use Rattle.search_error.specs.Fixed.{error_at}
-use Rattle.search_refine.specs.Counted.{evals_of}
 use Rattle.search_dip.specs.Valley.{valley}
-use Rattle.search_dip.proofs.DipSteps.{Going, lowest_starts, lowest_goes, lowest_leaves, lowest_ends}
+use Rattle.search_dip.proofs.DipSteps.{Going}
 use Rattle.search_dip.proofs.dip.lowest.Given as goal
 
 abbrev pub invariant-loop : goal.invariant-loop

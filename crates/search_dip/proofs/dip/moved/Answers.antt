@@ -1,5 +1,4 @@
 -- `moved` meets its contract. Assumes nothing.
-use borrow.Author.Rules.{rules}
 use Rattle.search_dip.specs.Valley.{valley}
 use Rattle.search_dip.proofs.DipSteps.{moved_left, moved_right}
 use Rattle.search_dip.proofs.dip.moved.Goals as goal

@@ -1,5 +1,4 @@
 -- `opened` meets its contract. Assumes nothing.
-use borrow.Author.Rules.{rules}
 use Rattle.search_dip.proofs.DipSteps.{opened_of}
 use Rattle.search_dip.proofs.dip.opened.Goals as goal
 
