@@ -1,20 +1,20 @@
 -- The steps of scan_samples, by what the code's tests and calls gave. Assumes nothing.
 use mathlib.Core.Path.{◌≡◌, refl, sym, ◌∙◌, ap}
 use mathlib.Core.Bool.{Bool, true, false, ◌&&◌, beq}
-use mathlib.Core.List.{List, ◌++◌}
+use mathlib.Core.List.{◌++◌}
 use Prim.Native.Nat.{ℕ, zero, suc, ◌+◌, ◌-◌, ◌*◌, ◌≤◌, ◌<◌}
 use native.Mathlib.Omega.{arith}
 use native.Mathlib.Numerals.{add-one}
 use lib.ListN.{length, length-append}
 use lib.Ieee.{Float, nan, lt, le}
 use Rattle.float.specs.Number.{abs}
-use Rattle.search_definition.specs.Found.{Part, Place, crossing, inner, last, first, Origin, Out, nothing, ◌then◌}
+use Rattle.search_definition.specs.Found.{Part, Place, crossing, inner, last, first, Origin, Out, ◌then◌}
 use Rattle.search_definition.specs.Refine.{negative}
 use Rattle.search_definition.specs.Dip.{Point, refined, minimise_dip}
 use Rattle.search_definition.specs.Scan.{touch, alike, crosses, dips, falls_to, falls_back, if_dip, inner_dip, if_crosses, item, items, last_dip, first_dip, scan_samples}
 use Rattle.search_definition.proofs.Bounds.{scan_slots}
 use Rattle.search_pairs.specs.State.{State, afterwards, point}
-use Rattle.search_pairs.proofs.States.{after_both, after_nothing, after_two}
+use Rattle.search_pairs.proofs.States.{after_nothing, after_two}
 
 -- ---- the tests
 module _ (y0 y1 y2 : Float) {a b c : Float} {r1 r2 r3 : Bool} (ea : a ≡ abs y0) (eb : b ≡ abs y1) (ec : c ≡ abs y2) where

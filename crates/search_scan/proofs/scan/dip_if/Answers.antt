@@ -1,5 +1,4 @@
 -- `dip_if` meets its contract. Assumes nothing.
-use borrow.Author.Rules.{rules}
 use Rattle.search_error.specs.Fixed.{error_at}
 use Rattle.search_pairs.specs.State.{state, point}
 use Rattle.search_scan.proofs.ScanSteps.{dip_held, dip_not_held}

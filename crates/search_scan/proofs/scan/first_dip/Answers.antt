@@ -1,5 +1,4 @@
 -- `first_dip` meets its contract. Assumes nothing.
-use borrow.Author.Rules.{rules}
 use Rattle.search_definition.specs.Found.{Part, first}
 use Rattle.search_definition.specs.Scan.{falls_back, alike}
 use Rattle.search_error.specs.Fixed.{error_at}

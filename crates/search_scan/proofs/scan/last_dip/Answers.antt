@@ -1,5 +1,4 @@
 -- `last_dip` meets its contract. Assumes nothing.
-use borrow.Author.Rules.{rules}
 use Rattle.search_definition.specs.Found.{Part, last}
 use Rattle.search_definition.specs.Scan.{falls_to, alike}
 use Rattle.search_error.specs.Fixed.{error_at}

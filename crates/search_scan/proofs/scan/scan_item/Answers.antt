@@ -1,7 +1,6 @@
 -- `scan_item` meets its contract. Assumes nothing.
 use Prim.Native.Nat.{suc, ◌+◌, ◌-◌}
 use native.Mathlib.Omega.{arith}
-use borrow.Author.Rules.{rules}
 use Rattle.search_definition.specs.Found.{Part, crossing, inner}
 use Rattle.search_definition.specs.Scan.{alike, crosses, dips}
 use Rattle.search_error.specs.Fixed.{error_at}

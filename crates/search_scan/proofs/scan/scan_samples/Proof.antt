@@ -1,6 +1,6 @@
 -- `scan_samples` meets its contract: at the loop's head, what is left of the row after the state now is the whole row's items after the state at entry. Assumes nothing.
 use mathlib.Core.Path.{◌≡◌, refl, ◌∙◌, ap}
-use Prim.Native.Nat.{ℕ, ◌+◌, ◌-◌, ◌*◌, ◌≤◌, ◌<◌}
+use Prim.Native.Nat.{ℕ, ◌+◌, ◌-◌, ◌*◌, ◌≤◌}
 use native.Mathlib.Omega.{arith}
 use lib.ListN.{length}
 use Rattle.search_definition.specs.Found.{Place, Origin, grid, component}
