@@ -8,15 +8,14 @@ use lib.Seq.{get_or-append_seam}
 use lib.Ieee.{Float, nan, lt}
 use Rattle.float.specs.Num.{◌⊕◌, ◌⊖◌, ◌⊗◌}
 use Rattle.float.specs.Number.{is_finite}
-use Rattle.search_definition.specs.Found.{Place, Origin, edge, Out, nothing, asks, ◌then◌, Asked, asking}
+use Rattle.search_definition.specs.Found.{Place, Origin, edge, asks, ◌then◌, Asked}
 use Rattle.search_definition.specs.Dip.{Point}
 use Rattle.search_definition.specs.Scan.{scan_samples}
 use Rattle.search_definition.specs.Search.{Gap, mid, if_inside, keep, reversed_if, share, halved, bisect, subsample, subsamples, edge_points, edge_row, row_at, if_first_inside, scan_row, edge_from, if_alike, edge_at}
-use Rattle.search_definition.proofs.Bounds.{then_assoc}
 use Rattle.search_refine.specs.Counted.{Counted, with_count, counted}
 use Rattle.search_pairs.specs.State.{point, row, firsts, State, afterwards}
 use Rattle.search_refine.proofs.Count.{counted_asking}
-use Rattle.search_pairs.proofs.States.{after_both, after_nothing, after_two, spend, after_asks}
+use Rattle.search_pairs.proofs.States.{after_both, after_nothing, spend, after_asks}
 use Rattle.search_edge.proofs.Rows.{scan_same}
 
 -- ---- bisection

@@ -1,8 +1,7 @@
 -- `bisect` meets its contract. Assumes nothing.
-use Rattle.std.proofs.Common.{◌≡◌, ◌+◌, ◌-◌, ◌≤◌, refl, ap, arith}
-use Rattle.search_definition.specs.Search.{bisect}
+use Rattle.std.proofs.Common.{refl, ap, arith}
 use Rattle.search_error.specs.Fixed.{error_at}
-use Rattle.search_refine.specs.Counted.{counted, evals_of}
+use Rattle.search_refine.specs.Counted.{evals_of}
 use Rattle.search_edge.specs.State.{gap}
 use Rattle.search_edge.proofs.EdgeSteps.{bisect_step, bisect_end}
 use Rattle.search_edge.proofs.edge.bisect.Goals as goal

@@ -1,5 +1,5 @@
 -- `edge_at` meets its contract. Assumes nothing.
-use Rattle.std.proofs.Common.{refl, rules}
+use Rattle.std.proofs.Common.{refl}
 use Rattle.search_definition.specs.Found.{edge, component}
 use Rattle.search_error.specs.Fixed.{error_at}
 use Rattle.search_pairs.specs.State.{row, state}

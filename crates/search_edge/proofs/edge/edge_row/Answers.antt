@@ -1,10 +1,8 @@
 -- `edge_row` meets its contract: the row so far, and what the definition still takes, is the definition's row. Assumes nothing.
-use Rattle.std.proofs.Common.{◌≡◌, ◌+◌, ◌-◌, ◌≤◌, length, sym, ◌∙◌, arith, length-set, rules}
-use Rattle.search_definition.specs.Search.{edge_points}
+use Rattle.std.proofs.Common.{sym, ◌∙◌, arith, length-set}
 use Rattle.search_error.specs.Fixed.{error_at}
-use Rattle.search_refine.specs.Counted.{counted}
 use Rattle.search_pairs.specs.State.{point, row, firsts}
-use Rattle.search_edge.proofs.EdgeSteps.{still, pushed, row_starts, row_next, row_done}
+use Rattle.search_edge.proofs.EdgeSteps.{pushed, row_starts, row_next, row_done}
 use Rattle.search_edge.proofs.edge.edge_row.Goals as goal
 
 pub loop-j-init : goal.loop-j-init

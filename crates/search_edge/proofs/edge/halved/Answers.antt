@@ -1,5 +1,4 @@
 -- `halved` meets its contract. Assumes nothing.
-use Rattle.std.proofs.Common.{rules}
 use Rattle.search_definition.specs.Search.{mid}
 use Rattle.search_error.specs.Fixed.{error_at}
 use Rattle.search_edge.specs.State.{gap}

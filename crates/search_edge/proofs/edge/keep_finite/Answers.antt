@@ -1,5 +1,5 @@
 -- `keep_finite` meets its contract. Assumes nothing.
-use Rattle.std.proofs.Common.{arith, rules}
+use Rattle.std.proofs.Common.{arith}
 use Rattle.search_edge.proofs.EdgeSteps.{kept, passed_over}
 use Rattle.search_edge.proofs.edge.keep_finite.Goals as goal
 

@@ -1,5 +1,5 @@
 -- `reverse_row` meets its contract. Assumes nothing.
-use Rattle.std.proofs.Common.{◌≡◌, ℕ, ◌-◌, ◌<◌, ◌≤◌, length, get_or, refl, not-suc-le-zero, arith, length-set, rules}
+use Rattle.std.proofs.Common.{ℕ, ◌-◌, get_or, refl, not-suc-le-zero, arith, length-set}
 use lib.Ieee.{nan}
 use Rattle.search_edge.proofs.EdgeSteps.{set_next}
 use Rattle.search_edge.proofs.edge.reverse_row.Goals as goal

@@ -1,7 +1,6 @@
 -- `reverse_row` meets its contract. Assumes nothing.
-use Rattle.std.proofs.Common.{◌≡◌, ℕ, ◌-◌, ◌<◌, ◌≤◌, length, get_or, refl, not-suc-le-zero, arith, length-set, rules}
+use Rattle.std.proofs.Common.{◌≡◌, ℕ, ◌-◌, ◌<◌, ◌≤◌, length, get_or}
 use lib.Ieee.{nan}
-use Rattle.search_edge.proofs.EdgeSteps.{set_next}
 use Rattle.search_edge.proofs.edge.reverse_row.Given as goal
 
 abbrev pub invariant-loop-k : goal.invariant-loop-k

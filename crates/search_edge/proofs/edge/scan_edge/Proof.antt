@@ -1,9 +1,9 @@
 -- `scan_edge` meets its contract. Assumes nothing.
-use Rattle.std.proofs.Common.{◌≡◌, ◌+◌, ◌≤◌, reverse, refl, ap, ◌∙◌, ap₂, arith, rules}
+use Rattle.std.proofs.Common.{◌≡◌, ◌+◌, refl, ap, ◌∙◌, ap₂, arith, rules}
 use Rattle.search_definition.proofs.Bounds.{bisect_asks, edge_points_asks}
 use Rattle.search_error.specs.Fixed.{error_at}
 use Rattle.search_refine.specs.Counted.{evals_of}
-use Rattle.search_pairs.specs.State.{point, row, held}
+use Rattle.search_pairs.specs.State.{point, held}
 use Rattle.search_edge.specs.State.{gap}
 use Rattle.search_edge.proofs.EdgeSteps.{reversed_row, edge_straight, edge_reversed}
 use Rattle.search_edge.proofs.edge.scan_edge.Statement.{statement}
