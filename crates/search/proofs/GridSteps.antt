@@ -1,12 +1,12 @@
 -- The steps of the walk over a component's runs and edges, and of the whole search. Assumes nothing.
 use mathlib.Core.Path.{◌≡◌, refl, sym, ◌∙◌, ap, ap₂}
 use mathlib.Core.Bool.{Bool, true, false}
-use mathlib.Core.List.{List, ◌++◌}
-use Prim.Native.Nat.{ℕ, zero, suc, ◌+◌, ◌-◌, ◌*◌, ◌≤◌, ◌<◌}
+use mathlib.Core.List.{List}
+use Prim.Native.Nat.{ℕ, suc, ◌+◌, ◌-◌, ◌*◌, ◌≤◌, ◌<◌}
 use native.Mathlib.Omega.{arith}
 use native.Mathlib.Numerals.{add-one}
-use lib.ListN.{length, get_or, length-append}
-use lib.Ieee.{Float, nan}
+use lib.ListN.{length, length-append}
+use lib.Ieee.{Float}
 use Rattle.float.specs.Number.{is_finite}
 use Rattle.search_definition.specs.Found.{grid, Out, asks, ◌then◌}
 use Rattle.search_definition.specs.Dip.{Point}
@@ -15,7 +15,7 @@ use Rattle.search_definition.specs.Search.{edge_at, edges, runs, of_component, a
 use Rattle.search_definition.proofs.Bounds.{of_component_held, angles_length}
 use Rattle.search.specs.State.{State, held, afterwards, point, row}
 use Rattle.search.specs.Searched.{Sampled, Gridded, of_components}
-use Rattle.search_pairs.proofs.States.{after_both, after_nothing, after_two, spend, after_asks}
+use Rattle.search_pairs.proofs.States.{after_nothing, after_two, after_asks}
 use Rattle.search_edge.proofs.Rows.{both, component_same}
 
 -- ---- the runs: of n + 1 samples, s + m are passed, the last m of which are a run

@@ -1,11 +1,9 @@
 -- What the search's contract means: the fields of `Searched`, and the whole lists where there is room for every pair. Assumes nothing.
-use mathlib.Core.Path.{◌≡◌, refl, sym, ◌∙◌, ap, subst}
-use mathlib.Core.Bool.{true, false}
+use mathlib.Core.Path.{◌≡◌, sym, ◌∙◌, ap, subst}
 use mathlib.Core.List.{List, ◌++◌, map}
-use Prim.Native.Nat.{ℕ, ◌+◌, ◌*◌, ◌≤◌, ◌<◌}
+use Prim.Native.Nat.{ℕ, ◌*◌, ◌≤◌, ◌<◌}
 use native.Mathlib.Omega.{arith}
 use native.Mathlib.Nat.{zero-add}
-use lib.Dec.{leb}
 use borrow.Author.Tests.{le-leb, lt-leb}
 use lib.ListN.{length, drop, length-map}
 use lib.Seq.{sets-eq}
@@ -16,7 +14,6 @@ use Rattle.search_definition.proofs.Bounds.{search_held}
 use Rattle.search.specs.State.{State, held, state, angle_of, component_of, afterwards}
 use Rattle.search.specs.Searched.{Searched, Listed, search_within}
 use Rattle.search_pairs.specs.declared.SearchCounts.{SearchCounts}
-use Rattle.search_pairs.proofs.States.{after_nothing}
 
 pub searched : (o : Out) (q : List Float) (c : List ℕ) {q' : List Float} {c' : List ℕ} {r : SearchCounts} → state q' c' r ≡ afterwards (held q c 0 0) o → Searched o q c q' c' r
 unfolding afterwards

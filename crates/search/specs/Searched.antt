@@ -1,5 +1,5 @@
 -- What the search leaves in the two lent lists, and what it returns.
-use Rattle.std.specs.Prelude.{cond, List, ◌++◌, map, ◌≡◌, ℕ, ◌<◌, leb, pos, length, get_or, drop, Float}
+use Rattle.std.specs.Prelude.{cond, List, ◌++◌, map, ◌≡◌, ℕ, ◌<◌, leb, length, get_or, drop, Float}
 use Rattle.std.proofs.lemmas.List.Edits.{sets}
 use Rattle.std.specs.Float.{nan}
 use Rattle.std.specs.Float.Ieee.{neg}

@@ -1,8 +1,7 @@
 -- `search::grid::scan_edges` meets its contract: the edges that are left after the state now are all edges after the state at entry. Assumes nothing.
 use mathlib.Core.Path.{◌≡◌, refl, ◌∙◌, ap}
-use Prim.Native.Nat.{ℕ, ◌+◌, ◌-◌, ◌*◌, ◌≤◌}
+use Prim.Native.Nat.{ℕ, ◌-◌}
 use native.Mathlib.Omega.{arith}
-use lib.ListN.{length}
 use Rattle.search_definition.specs.Search.{edges}
 use Rattle.search_error.specs.Fixed.{error_at}
 use Rattle.search.specs.State.{row, state, afterwards}

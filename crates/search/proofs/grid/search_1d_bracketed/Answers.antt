@@ -1,6 +1,5 @@
 -- `search::grid::search_1d_bracketed` meets its contract. Assumes nothing.
-use mathlib.Core.Path.{◌≡◌, sym, ◌∙◌, ap}
-use borrow.Author.Rules.{rules}
+use mathlib.Core.Path.{sym, ◌∙◌, ap}
 use Rattle.search_error.specs.Fixed.{error_at}
 use Rattle.search.specs.State.{held, afterwards}
 use Rattle.search.specs.Searched.{search_within}

@@ -1,6 +1,5 @@
 -- `search::grid::search_component` meets its contract. Assumes nothing.
 use native.Mathlib.Omega.{arith}
-use borrow.Author.Rules.{rules}
 use mathlib.Core.Path.{◌∙◌}
 use Rattle.search_error.specs.Fixed.{error_at}
 use Rattle.search.specs.State.{row, state}

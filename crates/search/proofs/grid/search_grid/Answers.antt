@@ -1,5 +1,4 @@
 -- `search::grid::search_grid` meets its contract. Assumes nothing.
-use borrow.Author.Rules.{rules}
 use Rattle.search_error.specs.Fixed.{error_at}
 use Rattle.search.proofs.GridSteps.{search_done}
 use Rattle.search.proofs.grid.search_grid.Goals as goal

@@ -1,6 +1,5 @@
 -- `search::grid::search_two_parallel` meets its contract. Assumes nothing.
 use mathlib.Core.Path.{ap, ◌∙◌}
-use borrow.Author.Rules.{rules}
 use Rattle.search_error.specs.Fixed.{error_at}
 use Rattle.search_error.proofs.SameError.{error_at_same}
 use Rattle.search.proofs.Listed.{same_error}
