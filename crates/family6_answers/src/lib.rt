@@ -1,5 +1,7 @@
 // The answers of family 6's pairs (q1, i), which the search finds: two_parallel of inverse_kinematics/mod.rs
 // after its search.
+#![tactic(auto)]
+
 ghost use Rattle.std.specs.Prelude.{◌≡◌};
 ghost use Rattle.float.specs.Num.{◌⊖◌};
 ghost use Rattle.float.specs.Wrap.{wrap_to_pi};
