@@ -1,9 +1,7 @@
 -- Document 01: "family 6 at most 44 × n" answers. So it is for every arm, pose, tolerance and n; the number that `two_parallel` returns is the length of this list.
 use mathlib.Core.Path.{◌≡◌, ◌∙◌}
-use mathlib.Core.Bool.{Bool, true, false}
 use Prim.Native.Nat.{ℕ, ◌*◌, ◌≤◌}
 use native.Mathlib.Omega.{arith}
-use lib.Dec.{leb}
 use lib.Ieee.{Float}
 use lib.ListN.{length, length-map}
 use Rattle.linear.specs.Matrix.{Matrix}

@@ -1,19 +1,17 @@
 -- What the two lists hold after the search: its pairs, each of them with an answer of subproblem 6. Assumes nothing.
 use mathlib.Core.Path.{◌≡◌, refl, sym, ◌∙◌, ap}
 use mathlib.Core.Bool.{Bool, true, false, cond}
-use mathlib.Core.List.{List, [], ◌∷◌, ◌++◌, map}
-use Prim.Native.Nat.{ℕ, zero, suc, ◌+◌, ◌*◌, ◌≤◌, ◌<◌}
+use mathlib.Core.List.{List, [], ◌∷◌, map}
+use Prim.Native.Nat.{ℕ, ◌*◌, ◌≤◌, ◌<◌}
 use native.Mathlib.Omega.{arith}
 use native.Mathlib.Nat.{not-suc-le-zero}
-use borrow.Author.Tests.{leb-true, leb-false}
+use borrow.Author.Tests.{leb-true}
 use lib.Dec.{leb}
 use lib.Ieee.{Float, nan}
-use lib.ListN.{length, take, drop, get_or, length-map, get_or-map}
-use lib.Seq.{sets, sets-eq, take_at, get_or-take, length-take-le}
+use lib.ListN.{length, take, get_or, length-map, get_or-map}
+use lib.Seq.{sets-eq, take_at, get_or-take}
 use Rattle.linear.specs.Matrix.{Matrix}
 use Rattle.linear.specs.declared.vector.Vector3.{Vector3}
-use Rattle.solutionset.specs.PairSet4.{size}
-use Rattle.solutionset.specs.declared.pairs.PairSet4.{PairSet4}
 use Rattle.kinematics.specs.declared.Kinematics.{Kinematics}
 use Rattle.search_definition.specs.Found.{Entry, Out, nothing, SearchPair, component, pair_of, pairs}
 use Rattle.search_definition.specs.Search.{search_1d_bracketed}

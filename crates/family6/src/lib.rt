@@ -1,5 +1,7 @@
 // Family 6: two_parallel of inverse_kinematics/mod.rs. Its answers are kept as the search's pairs (q1, i),
 // and each is made from its pair when it is read, so that all are known before one is written.
+#![tactic(auto)]
+
 ghost use Rattle.std.specs.Prelude.{◌≡◌, ◌<◌, length};
 ghost use Rattle.search_error.specs.Error.{t64_count};
 ghost use Rattle.family6_answers.specs.Pairs.{pair};
