@@ -1,17 +1,16 @@
 -- The track call meets demand 3, whatever it is lent, where it is not refused before it solves. Assumes nothing.
-use Prim.Native.Nat.{ℕ, ◌+◌, ◌*◌, ◌≤◌}
+use Prim.Native.Nat.{ℕ}
 use mathlib.Core.Path.{◌≡◌, refl, sym, ◌∙◌, ap}
-use mathlib.Core.Bool.{Bool, true}
 use mathlib.Core.List.{List, []}
 use native.Mathlib.Omega.{arith}
-use borrow.Author.Tests.{eq-eqb, leb-true}
+use borrow.Author.Tests.{leb-true}
 use lib.Dec.{leb}
 use lib.Ieee.{Float}
 use lib.ListN.{length}
 use Rattle.refusals.specs.Judge.{all_finite}
 use Rattle.limits.specs.Limits.{refusal_10}
 use Rattle.limits.proofs.Filter.{unlimited}
-use Rattle.full_list.specs.Full.{Full, of_numbers}
+use Rattle.full_list.specs.Full.{Full}
 use Rattle.solve.specs.Solve.{full, solve}
 use Rattle.solve.specs.Demand3.{of_pairs, Finite, SolveDemand3}
 use Rattle.solve.proofs.Demand3.{demand, unrefused}

@@ -1,5 +1,7 @@
 // The track call: an arm of seven axes with one joint locked is solved as the arm of six that is left,
 // and the locked angle comes back in its place.
+#![tactic(auto)]
+
 mod reduced;
 mod sevens;
 

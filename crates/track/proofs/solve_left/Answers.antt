@@ -1,6 +1,6 @@
 -- `solve_left`: the pairs of family 6, or the list of eight, as sevens.
 use Prim.Native.Nat.{ℕ, min, ◌/◌, ◌≤◌}
-use mathlib.Core.Path.{◌≡◌, refl, sym, ap, ◌∙◌}
+use mathlib.Core.Path.{◌≡◌, sym, ap, ◌∙◌}
 use mathlib.Core.List.{List}
 use native.Mathlib.Omega.{arith}
 use borrow.Author.Rules.{rules}

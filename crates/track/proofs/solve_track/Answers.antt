@@ -1,27 +1,20 @@
 -- `solve_track`: refused with nothing written, or the answers of the arm that is left as sevens.
-use Prim.Native.Nat.{ℕ, min, ◌/◌, ◌≤◌}
-use mathlib.Core.Path.{◌≡◌, refl, sym, ap, ◌∙◌}
-use mathlib.Core.Bool.{Bool, true, false, cond, not, ◌&&◌}
+use Prim.Native.Nat.{ℕ, ◌≤◌}
+use mathlib.Core.Path.{◌≡◌, sym, ap, ◌∙◌}
+use mathlib.Core.Bool.{Bool, true, false, not, ◌&&◌}
 use mathlib.Core.List.{List, []}
 use native.Mathlib.Omega.{arith}
-use borrow.Author.Rules.{rules}
 use borrow.Author.Tests.{eq-eqb, ne_eqb, not-true, not-false}
 use lib.Ieee.{Float}
 use lib.ListN.{length}
-use Rattle.kinematics.specs.Kinematics.{from_numbers}
-use Rattle.kinematics.specs.Pose.{pose_rotation, pose_place}
-use Rattle.answers.specs.Rows.{room_of, written_of, flagged_of, WroteOf}
-use Rattle.answers.proofs.Rows.{by_name}
-use Rattle.refusals.specs.Judge.{all_finite, refusal_9}
-use Rattle.full_list.specs.Full.{Full, no_search, tolerance, of_numbers}
-use Rattle.full_list.specs.Listed.{listed, Keeps}
-use Rattle.full_list.specs.declared.FullList.{FullList}
-use Rattle.full_list.proofs.Laws.{closed}
+use Rattle.answers.specs.Rows.{room_of, written_of, flagged_of}
+use Rattle.refusals.specs.Judge.{all_finite}
+use Rattle.full_list.specs.Full.{Full, no_search, of_numbers}
 use Rattle.solve.specs.declared.Solved.{Solved}
 use Rattle.track.specs.Sevens.{sevens}
 use Rattle.track.specs.Reduced.{reduced_arm, handed_on}
 use Rattle.track.specs.Track.{reduced_finite, track_judge, track_refused, track_full, track_answers, solve_track, solve_left}
-use Rattle.track.proofs.SevenRows.{seven_good, none_written}
+use Rattle.track.proofs.SevenRows.{none_written}
 use Rattle.track.proofs.Accepted.{TrackAccepted, track_accepted}
 use Rattle.track.proofs.Numbers.{reduced_long, handed_long}
 use Rattle.track.proofs.solve_track.Goals as goal

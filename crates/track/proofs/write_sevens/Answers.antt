@@ -10,7 +10,7 @@ use lib.ListN.{length, get_or}
 use Rattle.answers.specs.Rows.{WroteOf}
 use Rattle.answers.specs.declared.Answer.{Answer}
 use Rattle.answers.proofs.Rows.{by_name}
-use Rattle.answers.proofs.RowSteps.{StepsOf, start_long, again, end, angles_kept, flags_kept}
+use Rattle.answers.proofs.RowSteps.{start_long, again, end, angles_kept, flags_kept}
 use Rattle.full_list.specs.Listed.{listed, blank, Sound}
 use Rattle.full_list.specs.declared.FullList.{FullList}
 use Rattle.full_list.proofs.Laws.{listed_long}

@@ -1,22 +1,13 @@
 -- For each answer, what `put_seven` writes.
-use Prim.Native.Nat.{ℕ, min, ◌+◌, ◌*◌, ◌-◌, ◌≤◌, ◌<◌}
-use mathlib.Core.Path.{◌≡◌, refl, ap}
-use mathlib.Core.List.{List, [], ◌∷◌, flat_map}
-use native.Mathlib.Omega.{arith}
-use borrow.Author.Rules.{rules}
-use borrow.Rule.Slice.PartMut.{put_mid, mid_of}
+use Prim.Native.Nat.{ℕ, ◌-◌}
+use mathlib.Core.List.{List, [], ◌∷◌}
 use lib.Ieee.{Float}
-use lib.ListN.{length, get_or}
-use Rattle.answers.specs.Rows.{WroteOf}
 use Rattle.answers.specs.declared.Answer.{Answer}
-use Rattle.answers.proofs.Rows.{by_name}
-use Rattle.answers.proofs.RowSteps.{StepsOf, start_long, again, end, angles_kept, flags_kept}
-use Rattle.full_list.specs.Listed.{listed, blank, Sound}
+use Rattle.answers.proofs.RowSteps.{StepsOf}
+use Rattle.full_list.specs.Listed.{listed}
 use Rattle.full_list.specs.declared.FullList.{FullList}
-use Rattle.full_list.proofs.Laws.{listed_long}
 use Rattle.track.specs.Sevens.{sevens}
 use Rattle.track.specs.declared.Locked.{Locked}
-use Rattle.track.proofs.SevenRows.{seven_good}
 use Rattle.track.proofs.write_sevens.Given as goal
 
 abbrev pub one : Answer → List Answer

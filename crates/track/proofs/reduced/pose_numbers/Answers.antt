@@ -1,7 +1,6 @@
 -- The rows, then the place.
 use mathlib.Core.Path.{◌≡◌, refl}
-use mathlib.Core.List.{List, [], ◌∷◌}
-use borrow.Author.Rules.{rules}
+use mathlib.Core.List.{[], ◌∷◌}
 use Rattle.linear.specs.Matrix.{Matrix, row, part}
 use Rattle.linear.specs.declared.vector.Vector3.{Vector3}
 use Rattle.track.specs.Reduced.{pose_numbers}

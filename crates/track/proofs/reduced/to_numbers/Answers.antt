@@ -1,6 +1,6 @@
 -- The axes, then the offsets.
 use mathlib.Core.Path.{◌≡◌, refl}
-use mathlib.Core.List.{List, [], ◌∷◌}
+use mathlib.Core.List.{[], ◌∷◌}
 use Rattle.kinematics.specs.declared.Kinematics.{Kinematics}
 use Rattle.track.specs.Reduced.{to_numbers}
 use Rattle.track.proofs.reduced.to_numbers.Goals as goal

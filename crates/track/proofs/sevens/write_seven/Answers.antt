@@ -1,7 +1,6 @@
 -- Seven stores, each within the list.
 use native.Mathlib.Omega.{arith}
 use lib.ListN.{length-set}
-use borrow.Author.Rules.{rules}
 use Rattle.track.proofs.sevens.write_seven.Goals as goal
 
 pub bounds-angles-1 : goal.bounds-angles-1
