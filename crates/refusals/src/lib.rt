@@ -1,4 +1,6 @@
 // What the solve call refuses: 4 to 8 before it solves, 9 once the number of answers is known.
+#![tactic(auto)]
+
 ghost use Rattle.std.specs.Prelude.{◌≡◌, min};
 ghost use Rattle.refusals.specs.Judge.{within, samples_fit, first_not_finite, all_finite, judge, refusal_9};
 
