@@ -1,5 +1,5 @@
 -- What the filtered list is: some of the answers, in their order, and exactly those inside.
-use Rattle.std.specs.Prelude.{ℕ, ◌≤◌, ◌≡◌, Bool, true, false, List, [], ◌∷◌, Float, length}
+use Rattle.std.specs.Prelude.{◌≤◌, ◌≡◌, true, false, List, [], ◌∷◌, Float, length}
 use Rattle.answers.specs.declared.Answer.{Answer}
 use Rattle.limits.specs.Limits.{inside, allowed}
 

@@ -1,4 +1,6 @@
 // Joint limits: twelve numbers, low then high, joint by joint, or none.
+#![tactic(auto)]
+
 ghost use Rattle.std.specs.Prelude.{◌≡◌, not, ◌∷◌, [], ◌*◌, ◌≤◌, length};
 ghost use Rattle.std.specs.Float.Ieee.{lt};
 ghost use Rattle.answers.specs.Written.{Wrote};

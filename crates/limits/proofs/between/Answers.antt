@@ -1,6 +1,4 @@
 -- An end is inside, and a NaN is not.
-use native.Mathlib.Omega.{arith}
-use borrow.Author.Rules.{rules}
 use Rattle.limits.proofs.Laws.{not_below, below}
 use Rattle.limits.proofs.between.Goals as goal
 

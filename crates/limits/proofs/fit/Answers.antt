@@ -1,6 +1,4 @@
 -- Each joint's two.
-use native.Mathlib.Omega.{arith}
-use borrow.Author.Rules.{rules}
 use Rattle.limits.proofs.Laws.{each_pair}
 use Rattle.limits.proofs.fit.Goals as goal
 

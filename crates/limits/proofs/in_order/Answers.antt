@@ -1,6 +1,4 @@
 -- Equal is in order.
-use native.Mathlib.Omega.{arith}
-use borrow.Author.Rules.{rules}
 use Rattle.limits.proofs.Laws.{above, not_above}
 use Rattle.limits.proofs.in_order.Goals as goal
 

@@ -1,6 +1,4 @@
 -- Each joint's angle.
-use native.Mathlib.Omega.{arith}
-use borrow.Author.Rules.{rules}
 use Rattle.limits.proofs.Laws.{none_lent, each_joint}
 use Rattle.limits.proofs.inside.Goals as goal
 

@@ -1,5 +1,4 @@
 -- By the length, and then joint by joint.
-use borrow.Author.Rules.{rules}
 use Rattle.limits.proofs.Laws.{none_fine, another_length, fine, not_fit}
 use Rattle.limits.proofs.refusal_10.Goals as goal
 

@@ -1,7 +1,6 @@
 -- Three tests.
 use mathlib.Core.Path.{◌≡◌}
 use mathlib.Core.Bool.{Bool, not, ◌&&◌}
-use borrow.Author.Rules.{rules}
 use lib.Ieee.{Float, lt}
 use Rattle.float.specs.Number.{is_finite}
 use Rattle.limits.specs.Limits.{stops_fit}
