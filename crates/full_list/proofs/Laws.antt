@@ -9,7 +9,7 @@ use borrow.Author.Tests.{ne_eqb}
 use lib.Dec.{eqb}
 use lib.Ieee.{Float, nan}
 use lib.ListN.{length, get_or, length-map}
-use Rattle.answers.specs.Held.{read, held}
+use Rattle.answers.specs.Held.{read}
 use Rattle.answers.specs.Rows.{room_of}
 use Rattle.answers.specs.Written.{room, Wrote}
 use Rattle.answers.specs.declared.Answer.{Answer}

@@ -1,6 +1,8 @@
 // The full list of an arm and a pose, kept in two lists and read answer by answer. Families 1 to 5 write
 // their answers there; family 6 leaves the search's pairs, and an answer is made from its pair when it is
 // read. What a call does with the answers is its own affair.
+#![tactic(auto)]
+
 ghost use Rattle.std.specs.Prelude.{◌≡◌, false, ◌≤◌, ◌<◌, length, get_or};
 ghost use Rattle.std.specs.Float.{nan};
 ghost use Rattle.answers.specs.Written.{Wrote};

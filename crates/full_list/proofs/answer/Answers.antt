@@ -1,5 +1,4 @@
 -- `answer`: from its pair, or from its six angles.
-use borrow.Author.Rules.{rules}
 use Rattle.full_list.proofs.Laws.{arm_fits, pose_fits, in_numbers, in_bytes, is_usable, pair_at, six_in_numbers, one_in_bytes, six_at}
 use Rattle.full_list.proofs.answer.Goals as goal
 

@@ -1,5 +1,4 @@
 -- `list_of_eight`: what was written is the list.
-use borrow.Author.Rules.{rules}
 use Rattle.full_list.proofs.Laws.{kept_sixes}
 use Rattle.full_list.proofs.list_of_eight.Goals as goal
 
