@@ -2,7 +2,6 @@
 -- leave it as it came, refusal 9 leaves the first answers that fit." What a call gives and leaves is `solve`, `written` and `flagged` by its contract; here is what those are. Document 02, request 1: "10 and every later number report zeros and write nothing."
 use Prim.Native.Nat.{ℕ, ◌<◌, ◌≤◌}
 use mathlib.Core.Path.{◌≡◌, refl, sym}
-use mathlib.Core.Bool.{Bool, true, false}
 use mathlib.Core.List.{List, []}
 use borrow.Author.Tests.{eq-eqb, ne_eqb, le-leb, lt-leb}
 use lib.Ieee.{Float}

@@ -1,6 +1,6 @@
 -- Joint limits filter what is given, and change nothing that is solved. Assumes nothing.
 use Prim.Native.Nat.{ℕ, ◌*◌, ◌≤◌}
-use mathlib.Core.Path.{◌≡◌, refl, sym, ◌∙◌, ap}
+use mathlib.Core.Path.{◌≡◌, refl, ap}
 use mathlib.Core.Bool.{Bool, true, false, cond}
 use mathlib.Core.List.{List, []}
 use native.Mathlib.Omega.{arith}
@@ -12,9 +12,9 @@ use Rattle.kinematics.specs.Kinematics.{from_numbers}
 use Rattle.kinematics.specs.Pose.{pose_rotation, pose_place}
 use Rattle.family6.proofs.AtMost44.{at_most_44}
 use Rattle.refusals.specs.Judge.{judge}
-use Rattle.limits.specs.Limits.{allowed, refusal_10}
+use Rattle.limits.specs.Limits.{refusal_10}
 use Rattle.limits.proofs.Filter.{unlimited, the_allowed}
-use Rattle.full_list.specs.Full.{Full, no_search, without_search, by_family, tolerance, of_numbers}
+use Rattle.full_list.specs.Full.{Full, no_search, by_family, tolerance, of_numbers}
 use Rattle.full_list.proofs.Laws.{without_search_few, closed}
 use Rattle.solve.specs.Solve.{refused, full, answers, solve}
 use Rattle.solve.specs.Limited.{Limited}

@@ -1,6 +1,8 @@
 // The solve call: it judges its input, solves for the family, writes the answers inside the limits, and
 // gives the refusal and the counts. It equals its definition in specs/ on every input: any family, any
 // n, slices of any length, any numbers.
+#![tactic(auto)]
+
 ghost use Rattle.std.specs.Prelude.{◌≡◌, min};
 ghost use Rattle.answers.specs.Written.{room, written, flagged};
 ghost use Rattle.refusals.specs.Judge.{refusal_9};
