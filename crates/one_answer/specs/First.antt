@@ -1,5 +1,5 @@
 -- The first of a list's answers that is inside the limits, and whether there is one: what the code looks for.
-use Rattle.std.specs.Prelude.{Bool, true, false, cond, List, [], ◌∷◌, Float}
+use Rattle.std.specs.Prelude.{true, false, List, [], ◌∷◌, Float}
 use Rattle.answers.specs.declared.Answer.{Answer}
 use Rattle.limits.specs.Limits.{allowed}
 use Rattle.one_answer.specs.OneAnswer.{zeros}

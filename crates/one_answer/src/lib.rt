@@ -1,4 +1,6 @@
 // The one-answer call: a single answer within the limits, and no list.
+#![tactic(auto)]
+
 ghost use Rattle.std.specs.Prelude.{◌≡◌, ◌≤◌, length};
 ghost use Rattle.limits.specs.Limits.{TwelveOrNone};
 ghost use Rattle.full_list.specs.Full.{of_numbers};

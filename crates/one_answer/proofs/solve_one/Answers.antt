@@ -1,14 +1,13 @@
 -- `solve_one`: refused, or the first answer of the filtered list.
-use Prim.Native.Nat.{ℕ, suc, ◌≤◌, ◌<◌}
+use Prim.Native.Nat.{ℕ, ◌≤◌}
 use mathlib.Core.Path.{◌≡◌, refl, sym, ap, ◌∙◌}
-use mathlib.Core.Bool.{Bool, true, false, cond}
+use mathlib.Core.Bool.{true, false, cond}
 use mathlib.Core.List.{List, [], ◌∷◌}
 use native.Mathlib.Omega.{arith}
-use borrow.Author.Rules.{rules}
 use borrow.Author.Tests.{eq-eqb, ne_eqb}
 use lib.Dec.{eqb}
 use lib.Ieee.{Float}
-use lib.ListN.{length, get_or}
+use lib.ListN.{length}
 use Rattle.answers.specs.declared.Answer.{Answer}
 use Rattle.limits.specs.Limits.{TwelveOrNone, allowed}
 use Rattle.full_list.specs.Full.{Full, of_numbers}
@@ -17,7 +16,6 @@ use Rattle.solve.proofs.Accepted.{Accepted, accepted, accepted_numbers, accepted
 use Rattle.one_answer.specs.OneAnswer.{one_refusal, zeros, Member, Gives}
 use Rattle.one_answer.specs.First.{head, first_allowed}
 use Rattle.one_answer.specs.declared.Maybe.{Maybe}
-use Rattle.one_answer.specs.declared.One.{One}
 use Rattle.one_answer.proofs.solve_one.Goals as goal
 
 -- a list by its first answer: refusal 12, or a member
