@@ -1,5 +1,5 @@
 -- `check` is the sum modulo 2^64: so it is after each word.
-use Rattle.std.proofs.Common.{◌≡◌, ℕ, zero, suc, ◌+◌, ◌-◌, ◌%◌, ◌^◌, ◌<◌, ◌≤◌, List, sym, refl, ap, ◌∙◌, add-one, arith}
+use Rattle.std.proofs.Common.{◌≡◌, ℕ, ◌+◌, ◌%◌, ◌^◌, ◌≤◌, List, refl, add-one, arith}
 use native.Mathlib.Nat.{mod-add-mod}
 use Rattle.words.specs.Words.{word}
 use Rattle.block.specs.Check.{sum_of, check}

@@ -1,8 +1,6 @@
 -- `check` is the sum modulo 2^64: so it is after each word.
-use Rattle.std.proofs.Common.{◌≡◌, ℕ, zero, suc, ◌+◌, ◌-◌, ◌%◌, ◌^◌, ◌<◌, ◌≤◌, List, sym, refl, ap, ◌∙◌, add-one, arith}
-use native.Mathlib.Nat.{mod-add-mod}
-use Rattle.words.specs.Words.{word}
-use Rattle.block.specs.Check.{sum_of, check}
+use Rattle.std.proofs.Common.{◌≡◌, ◌-◌, ◌%◌, ◌^◌, ◌≤◌}
+use Rattle.block.specs.Check.{sum_of}
 use Rattle.block.proofs.check.Given as goal
 
 abbrev pub invariant-loop-i : goal.invariant-loop-i

@@ -1,5 +1,5 @@
 -- `damage`: the first of the two that applies.
-use Rattle.std.proofs.Common.{◌≡◌, ℕ, ◌<◌, ◌≤◌, List, length, rules, le-ltb, lt-ltb, eq-eqb, ne_eqb}
+use Rattle.std.proofs.Common.{◌≡◌, ℕ, ◌<◌, ◌≤◌, List, length, le-ltb, lt-ltb, eq-eqb, ne_eqb}
 use Rattle.words.specs.Words.{word}
 use Rattle.block.specs.Check.{check}
 use Rattle.block.specs.Block.{judged}

@@ -1,5 +1,5 @@
 -- `reserved`: the first range, and then the second.
-use Rattle.std.proofs.Common.{◌≡◌, ℕ, Bool, true, false, List, take, drop, rules}
+use Rattle.std.proofs.Common.{◌≡◌, ℕ, Bool, true, false, List, take, drop}
 use Rattle.words.specs.Words.{zeros}
 use Rattle.block.specs.Block.{reserved}
 use Rattle.block.proofs.reserved.Goals as goal
