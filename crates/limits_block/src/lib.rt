@@ -1,5 +1,7 @@
 // The limits block: what it is, its refusal and its twelve numbers, and what it does to the limits in
 // force. Each function equals its definition in specs/, and but for `limits` at any bytes.
+#![tactic(auto)]
+
 ghost use Rattle.std.specs.Prelude.{◌≡◌, ◌≤◌, length};
 ghost use Rattle.limits_block.specs.LimitsBlock.{is_limits, limits, limits_reserved, limits_refusal, accepted, in_force};
 

@@ -4,7 +4,6 @@ use mathlib.Core.Path.{◌≡◌}
 use mathlib.Core.Bool.{false}
 use mathlib.Core.List.{List}
 use native.Mathlib.Omega.{arith}
-use borrow.Author.Rules.{rules}
 use lib.ListN.{length, get_or-eq_default}
 use Rattle.limits_block.specs.LimitsBlock.{is_limits}
 use Rattle.limits_block.proofs.is_limits.Goals as goal
