@@ -1,4 +1,6 @@
 // The block call: document 01's solve call for a block of 512 bytes.
+#![tactic(auto)]
+
 ghost use Rattle.std.specs.Prelude.{◌≡◌};
 ghost use Rattle.answers.specs.Written.{room, written, flagged};
 ghost use Rattle.solve_block.specs.SolveBlock.{solve_block, block_answers};
