@@ -1,5 +1,5 @@
 -- Lists of blocks: what the calls do to the arms held, and what a judged list of blocks is.
-use Prim.Native.Nat.{ℕ, zero, suc, ◌+◌, ◌-◌, ◌≤◌}
+use Prim.Native.Nat.{ℕ, zero, suc, ◌≤◌}
 use mathlib.Core.Path.{◌≡◌, refl, ap, sym, ◌∙◌}
 use mathlib.Core.Bool.{Bool, true, false, cond, not, ◌&&◌, ◌||◌}
 use mathlib.Core.List.{List, [], ◌∷◌, ◌++◌, append-nil, append_assoc}
@@ -8,7 +8,6 @@ use borrow.Author.Tests.{eqb-true, eq-eqb, ne_eqb, lt-ltb}
 use lib.Dec.{ltb, eqb, leb-suc-suc}
 use lib.ListN.{length, replicate}
 use Rattle.words.specs.Words.{word, zeros}
-use Rattle.block.specs.Block.{judged}
 use Rattle.block.specs.Check.{check}
 use Rattle.refusals.specs.Judge.{all_finite}
 use Rattle.arms.specs.Arm.{Arm, or_else, holds, arm_fault}

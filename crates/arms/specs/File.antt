@@ -6,7 +6,7 @@ use Rattle.std.specs.Float.Ieee.{to_bits}
 use Rattle.words.specs.Words.{zeros}
 use Rattle.block.specs.Block.{arm, judged}
 use Rattle.block.specs.Check.{check}
-use Rattle.arms.specs.Arm.{Arm, numbered, or_else, holds, arm_fault, Call, put, find, take_out, compact, own, Gave, gave}
+use Rattle.arms.specs.Arm.{Arm, numbered, or_else, arm_fault, Call, put, find, take_out, compact, own, Gave, gave}
 
 -- the blocks of a buffer: 512 bytes each, and the last is short where the length is no multiple of 512
 unfoldable pub blocks_of : ℕ → List ℕ → List (List ℕ)

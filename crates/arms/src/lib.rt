@@ -1,6 +1,8 @@
 // The file of arms: a buffer of 512-byte blocks, judged block by block, and the four calls on it. Each
 // public function equals its definition in specs/ on every input. A place is that of a byte, so a
 // block begins at a multiple of 512.
+#![tactic(auto)]
+
 ghost use Rattle.std.specs.Prelude.{◌≡◌, false, cond, [], ◌+◌, ◌*◌, ◌%◌, ◌≤◌, ◌<◌, length, get_or, take, drop, replicate};
 ghost use Rattle.std.specs.Float.{binary64};
 ghost use Rattle.std.specs.Float.Ieee.{of_bits};

@@ -1,17 +1,8 @@
 -- The words before i are finite, and the rest decides.
-use Prim.Native.Nat.{ℕ, suc, ◌+◌, ◌-◌, ◌≤◌, ◌<◌}
-use mathlib.Core.Path.{◌≡◌, refl, sym, ◌∙◌}
-use mathlib.Core.Bool.{Bool, true, false, cond, not, ◌&&◌}
-use mathlib.Core.List.{List, ◌∷◌}
-use native.Mathlib.Omega.{arith}
-use borrow.Author.Rules.{rules}
-use borrow.Author.Tests.{not-true, not-false, lt-leb}
-use lib.Dec.{leb, leb-suc-suc}
-use lib.Ieee.{Float, binary64, of_bits}
-use lib.ListN.{length}
-use Rattle.float.specs.Number.{is_finite}
-use Rattle.refusals.specs.Judge.{first_not_finite, all_finite}
-use Rattle.words.specs.Words.{word, numbers}
+use Prim.Native.Nat.{◌-◌, ◌≤◌}
+use mathlib.Core.Path.{◌≡◌}
+use Rattle.refusals.specs.Judge.{all_finite}
+use Rattle.words.specs.Words.{numbers}
 use Rattle.block.specs.Block.{arm}
 use Rattle.arms.proofs.finite.Given as goal
 

@@ -5,7 +5,7 @@ use mathlib.Core.Bool.{Bool, true, false, cond, not}
 use native.Mathlib.Omega.{arith}
 use borrow.Author.Tests.{ltb-true, ltb-false, eq-eqb, ne_eqb}
 use lib.Dec.{leb, ltb, eqb}
-use lib.Ieee.{Float, nan, inf, binary64, prec, low, hid, ones, top, odd, of_fields, of_bits}
+use lib.Ieee.{Float, nan, inf, binary64, prec, low, hid, top, odd, of_fields, of_bits}
 use Rattle.float.specs.Number.{is_finite}
 use Rattle.arms.proofs.finite_word.Goals as goal
 

@@ -1,14 +1,9 @@
 -- The blocks before the place have other numbers.
-use Prim.Native.Nat.{ℕ, ◌+◌, ◌-◌, ◌*◌, ◌%◌, ◌≤◌, ◌<◌}
-use mathlib.Core.Path.{◌≡◌, refl, sym, ◌∙◌}
-use mathlib.Core.List.{List}
-use native.Mathlib.Omega.{arith}
-use borrow.Author.Tests.{eq-eqb, ne_eqb}
-use lib.ListN.{length, take, drop, length-drop}
-use lib.Seq.{length-take-le}
-use Rattle.arms.specs.File.{blocks, number}
+use Prim.Native.Nat.{◌+◌, ◌-◌, ◌*◌, ◌%◌, ◌≤◌}
+use mathlib.Core.Path.{◌≡◌}
+use lib.ListN.{length, drop}
+use Rattle.arms.specs.File.{blocks}
 use Rattle.arms.specs.Port.{place, named}
-use Rattle.arms.proofs.Places.{place_here, place_on, place_none}
 use Rattle.arms.proofs.place_of.Given as goal
 
 abbrev pub invariant-loop-place : goal.invariant-loop-place

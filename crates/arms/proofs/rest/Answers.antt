@@ -3,7 +3,6 @@ use Prim.Native.Nat.{ℕ}
 use mathlib.Core.Path.{◌≡◌}
 use mathlib.Core.Bool.{Bool, ◌&&◌}
 use mathlib.Core.List.{List}
-use borrow.Author.Rules.{rules}
 use lib.ListN.{take, drop}
 use Rattle.words.specs.Words.{zeros}
 use Rattle.arms.specs.File.{number_bytes, number_gap, rest}

@@ -1,20 +1,9 @@
 -- The held blocks before the place stand at the front, and the blocks from the place on are as they were.
-use Prim.Native.Nat.{ℕ, ◌+◌, ◌-◌, ◌%◌, ◌≤◌, ◌<◌}
-use mathlib.Core.Path.{◌≡◌, refl, sym, ap, ◌∙◌}
-use mathlib.Core.Bool.{cond}
-use mathlib.Core.List.{List, [], ◌++◌, append-nil}
-use native.Mathlib.Omega.{arith}
-use borrow.Author.Tests.{eq-eqb, ne_eqb}
-use lib.Dec.{eqb}
-use lib.ListN.{length, take, drop, length-drop}
-use lib.Seq.{drop-drop, take_all, length-take-le}
-use Rattle.words.specs.Words.{zeros}
-use Rattle.arms.specs.File.{blocks, flat, number, front}
-use Rattle.arms.specs.Agreement.{Valid}
-use Rattle.arms.specs.Port.{Moved, Fronted}
-use Rattle.arms.proofs.Parts.{blocks_none}
-use Rattle.arms.proofs.Places.{valid_whole, empty_at}
-use Rattle.arms.proofs.Fronts.{front_next}
+use Prim.Native.Nat.{ℕ, ◌-◌, ◌%◌, ◌≤◌}
+use mathlib.Core.Path.{◌≡◌}
+use mathlib.Core.List.{List}
+use lib.ListN.{length, take, drop}
+use Rattle.arms.specs.File.{blocks, flat, front}
 use Rattle.arms.proofs.to_front.Given as goal
 
 pub record State (b₀ b : List ℕ) (w at : ℕ) : Type 0 where
