@@ -1,5 +1,5 @@
 -- The digits, and a space.
-use Prim.Native.Nat.{ℕ, ◌+◌}
+use Prim.Native.Nat.{ℕ}
 use mathlib.Core.List.{List}
 use borrow.Author.Rules.{rules}
 use lib.Ieee.{Float}

@@ -1,6 +1,5 @@
 -- `angles`: the first i are written.
-use Prim.Native.Nat.{ℕ, ◌+◌, ◌*◌, ◌-◌, ◌≤◌, ◌<◌}
-use mathlib.Core.Path.{◌≡◌, refl}
+use Prim.Native.Nat.{ℕ, ◌+◌, ◌≤◌, ◌<◌}
 use mathlib.Core.List.{List, flat_map}
 use native.Mathlib.Omega.{arith}
 use lib.Ieee.{Float}

@@ -1,14 +1,10 @@
 -- `angles`: the first i are written.
-use Prim.Native.Nat.{ℕ, ◌+◌, ◌*◌, ◌-◌, ◌≤◌, ◌<◌}
-use mathlib.Core.Path.{◌≡◌, refl}
-use mathlib.Core.List.{List, flat_map}
-use native.Mathlib.Omega.{arith}
-use lib.Ieee.{Float}
-use lib.ListN.{length, take, get_or}
-use lib.Seq.{take_all}
+use Prim.Native.Nat.{◌+◌, ◌*◌, ◌-◌, ◌≤◌}
+use mathlib.Core.Path.{◌≡◌}
+use mathlib.Core.List.{flat_map}
+use lib.ListN.{length, take}
 use Rattle.text.specs.Text.{Put}
 use Rattle.text.specs.Lists.{angle}
-use Rattle.text.proofs.Laws.{both, nothing, one_more}
 use Rattle.text.proofs.lists.angles.Given as goal
 
 abbrev pub invariant-loop-i : goal.invariant-loop-i

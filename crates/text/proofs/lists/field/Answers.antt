@@ -1,9 +1,7 @@
 -- The word, and then the number.
-use Prim.Native.Nat.{ℕ, ◌+◌, ◌≤◌}
+use Prim.Native.Nat.{ℕ}
 use mathlib.Core.List.{List}
-use native.Mathlib.Omega.{arith}
 use borrow.Author.Rules.{rules}
-use lib.ListN.{length}
 use Rattle.text.specs.Text.{decimal, Put}
 use Rattle.text.specs.Lists.{field}
 use Rattle.text.proofs.Laws.{both}

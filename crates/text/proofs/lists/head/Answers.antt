@@ -1,7 +1,6 @@
 -- Four words with their numbers, and the end of the line.
-use Prim.Native.Nat.{ℕ, ◌+◌, ◌≤◌}
+use Prim.Native.Nat.{ℕ}
 use mathlib.Core.List.{List}
-use native.Mathlib.Omega.{arith}
 use borrow.Author.Rules.{rules}
 use Rattle.text.specs.Text.{text, Put}
 use Rattle.text.specs.Lists.{field, head}

@@ -5,7 +5,7 @@ use mathlib.Core.List.{List, flat_map}
 use borrow.Author.Rules.{rules}
 use native.Mathlib.Omega.{arith}
 use lib.Ieee.{Float}
-use lib.ListN.{length, take, drop, get_or}
+use lib.ListN.{take, drop, get_or}
 use Rattle.text.specs.Text.{text, digits, Put}
 use Rattle.text.specs.Lists.{angle, line, line_at}
 use Rattle.text.proofs.Laws.{both}

@@ -1,14 +1,8 @@
 -- `lines_of`: the first i lines are written.
-use Prim.Native.Nat.{ℕ, ◌+◌, ◌*◌, ◌-◌, ◌≤◌, ◌<◌}
-use mathlib.Core.Path.{◌≡◌, refl}
-use mathlib.Core.List.{List}
-use native.Mathlib.Numerals.{add-one}
-use native.Mathlib.Omega.{arith}
-use lib.Ieee.{Float}
-use lib.ListN.{length}
+use Prim.Native.Nat.{◌+◌, ◌*◌, ◌-◌, ◌≤◌}
+use mathlib.Core.Path.{◌≡◌}
 use Rattle.text.specs.Text.{Put}
-use Rattle.text.specs.Lists.{line_at, lines_of}
-use Rattle.text.proofs.Laws.{both, nothing}
+use Rattle.text.specs.Lists.{lines_of}
 use Rattle.text.proofs.lists.lines_of.Given as goal
 
 abbrev pub invariant-loop-i : goal.invariant-loop-i

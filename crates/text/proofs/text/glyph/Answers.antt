@@ -1,7 +1,6 @@
 -- A digit below ten, and one above.
 use Prim.Native.Nat.{ℕ, ◌+◌, ◌<◌, ◌≤◌}
 use mathlib.Core.Path.{◌≡◌}
-use borrow.Author.Rules.{rules}
 use borrow.Author.Tests.{lt-ltb, le-ltb}
 use Rattle.text.specs.Text.{glyph}
 use Rattle.text.proofs.text.glyph.Goals as goal
