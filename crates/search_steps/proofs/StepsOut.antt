@@ -96,7 +96,7 @@ module _ (err : ℕ → Float → Float) (n : ℕ) where
   filled_xs : (S : Samples) (c k : ℕ) → (filled S c k).xs ≡ S.xs ++ angles n c k
   unfolding filled angles more
   filled_xs S zero k = sym (append-nil S.xs)
-  filled_xs S (suc c) k = filled_xs _ c (suc k) ∙ append_assoc S.xs (angle n k ∷ []) (angles n c (suc k))
+  filled_xs S (suc c) k = filled_xs (more S (angle n k) (values (angle n k))) c (suc k) ∙ append_assoc S.xs (angle n k ∷ []) (angles n c (suc k))
 
   filled_row : (S : Samples) (i c k : ℕ) → i < 4 → row_of (filled S c k) i ≡ row_of S i ++ map (err i) (angles n c k)
   unfolding filled angles
