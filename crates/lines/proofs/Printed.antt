@@ -1,5 +1,5 @@
 -- The lists that hold answers print as the answers' lines.
-use Prim.Native.Nat.{ℕ, zero, suc, min, ◌+◌, ◌*◌, ◌≤◌, ◌<◌, ◌/◌}
+use Prim.Native.Nat.{ℕ, zero, suc, min, ◌+◌, ◌*◌, ◌≤◌, ◌<◌}
 use mathlib.Core.Path.{◌≡◌, refl, sym, ap, ◌∙◌}
 use mathlib.Core.Bool.{Bool, true, false}
 use mathlib.Core.List.{List, [], ◌∷◌, ◌++◌, map, flat_map}
@@ -10,7 +10,7 @@ use lib.ListN.{length, take, drop, get_or, length-take}
 use lib.Seq.{drop-drop, take_all}
 use Rattle.answers.specs.Answer.{six, flag, byte}
 use Rattle.answers.specs.Rows.{room_of, fitting_of, written_of, flagged_of}
-use Rattle.answers.specs.Written.{room, fitting, written, flagged}
+use Rattle.answers.specs.Written.{fitting, written, flagged}
 use Rattle.answers.specs.declared.Answer.{Answer}
 use Rattle.text.specs.Text.{digits, places, decimal}
 use Rattle.text.specs.Lists.{line, line_at, lines_of}

@@ -1,4 +1,6 @@
 // The lines of a block as bytes, made from the block, its place and the limits in force.
+#![tactic(auto)]
+
 ghost use Rattle.std.specs.Prelude.{◌≡◌, ◌≤◌, length};
 ghost use Rattle.text.specs.Text.{Put};
 ghost use Rattle.lines.specs.Lines.{pose_lines, limits_lines, lines};

@@ -1,7 +1,7 @@
 -- `limits_lines`: no line where the block is accepted, and its line where it is refused.
 use Prim.Native.Nat.{ℕ}
 use mathlib.Core.Path.{◌≡◌}
-use mathlib.Core.List.{List, []}
+use mathlib.Core.List.{List}
 use borrow.Author.Rules.{rules}
 use borrow.Author.Tests.{eq-eqb, ne_eqb}
 use Rattle.limits_block.specs.LimitsBlock.{limits_refusal}
