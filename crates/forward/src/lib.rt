@@ -1,4 +1,6 @@
 // Forward kinematics over plain numbers, for the library: it judges the lengths of its lists.
+#![tactic(auto)]
+
 mod pose;
 
 ghost use Rattle.std.specs.Prelude.{◌≡◌};
