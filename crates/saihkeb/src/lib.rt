@@ -3,6 +3,8 @@
 // (include/saihkeb.h is its manual). No call asks anything of its numbers or of its lists' lengths:
 // each equals its definition on every input. A list is lent, so its pointer is never null; the
 // header's functions of the short names take a null pointer too.
+#![tactic(auto)]
+
 ghost use Rattle.std.specs.Prelude.{◌≡◌, ◌∷◌, []};
 ghost use Rattle.std.proofs.lemmas.List.Edits.{sets};
 ghost use Rattle.answers.specs.Answer.{six, flag, byte};
