@@ -1,4 +1,6 @@
 // The scalar functions for a C or Rust caller: what tools/measure/bench_float.sh measures.
+#![tactic(auto)]
+
 ghost use Rattle.std.specs.Prelude.{◌≡◌};
 ghost use Rattle.float.specs.Root.{sqrt, cbrt};
 ghost use Rattle.float.specs.Sine.{sin, cos};
