@@ -3,6 +3,8 @@
 // those of the oracle's test records (`oracle layout`): a vector stands by its parts, a matrix by
 // rows, a complex number as re and im, a set or a list of roots as its count and all its slots. The
 // results go to the first words of `out`. A number that no function has writes nothing.
+#![tactic(auto)]
+
 mod family_call;
 mod polynomials;
 mod shapes;
