@@ -1,32 +1,63 @@
--- The calls by which the program came to where it stands.
+-- The calls by which the program came to where it stands, and what they moved.
 use Prim.Native.Nat.{ℕ, ◌+◌, ◌-◌, ◌≤◌, ◌^◌}
-use mathlib.Core.Path.{◌≡◌, refl, sym, ◌∙◌}
-use mathlib.Core.Bool.{false}
+use mathlib.Core.Path.{◌≡◌, refl, sym, ap, ◌∙◌}
+use mathlib.Core.Bool.{Bool, true, false, cond, true≢false}
 use mathlib.Core.List.{List, [], ◌∷◌, ◌++◌}
 use native.Mathlib.Omega.{arith}
 use lib.Ieee.{Float}
 use lib.ListN.{length, drop, length-append, length-take, length-drop}
-use Rattle.stream.specs.Standing.{start}
-use Rattle.stream.specs.Calls.{Call, after, Fitting, Served}
+use Rattle.std.proofs.Common.{Option, IfSome, subst, append-nil, append_assoc}
+use Rattle.std.proofs.KnownBytes.{Consumes-nil, Consumes-trans, Consumes-all, Appends-nil, Appends-trans}
+use Rattle.std.specs.Io.KnownBytes.{Appends, Consumes}
+use Rattle.stream.specs.Standing.{Standing, start, some, go_on}
+use Rattle.stream.specs.Calls.{Call, after, reads, writes, all_read, all_written, Fitting, Served, Copied}
 use Rattle.stream.specs.Progress.{standing, Sound, Ready, Asked, Turned}
 use Rattle.stream.specs.declared.progress.Ask.{Ask}
 use Rattle.stream.specs.declared.progress.Ask.TheVariants.{Stop}
 use Rattle.stream.specs.declared.progress.Progress.{Progress}
-use Rattle.stream.proofs.Right.{after_one, fitting_one}
+use Rattle.stream.proofs.Right.{after_one, fitting_one, right}
+
+-- one call more
+read_one : (s : Standing) (calls : List Call) (c : Call) → all_read s (calls ++ (c ∷ [])) ≡ all_read s calls ++ reads (after s calls) c
+unfolding all_read after
+read_one s [] c = append-nil (reads s c)
+read_one s (d ∷ calls) c =
+    let next = go_on s d.gave d.behind in
+    ap (λ (l : List ℕ). reads s d ++ l) (read_one next calls c) ∙ sym (append_assoc (reads s d) (all_read next calls) (reads (after next calls) c))
+
+written_one : (s : Standing) (calls : List Call) (c : Call) → all_written s (calls ++ (c ∷ [])) ≡ all_written s calls ++ writes (after s calls) c
+unfolding all_written after
+written_one s [] c = append-nil (writes s c)
+written_one s (d ∷ calls) c =
+    let next = go_on s d.gave d.behind in
+    ap (λ (l : List ℕ). writes s d ++ l) (written_one next calls c) ∙ sym (append_assoc (writes s d) (all_written next calls) (writes (after next calls) c))
+
+-- nothing is read past the end
+ended_reads : (s : Standing) (c : Call) → s.ended ≡ true → reads s c ≡ []
+unfolding reads
+ended_reads s c e = rw e (none s.failed (some s.pending))
+  where
+    none : (a b : Bool) → cond {A = List ℕ} a [] (cond b [] []) ≡ []
+    none true b = refl
+    none false true = refl
+    none false false = refl
 
 -- n calls were made, each a place at most further on
-pub record Reached (p : Progress) (block : List ℕ) (limits : List Float) (out : List ℕ) (angles : List Float) (flags : List ℕ) (n : ℕ) : Type 0 where
+pub record Reached (p : Progress) (block : List ℕ) (limits : List Float) (out : List ℕ) (angles : List Float) (flags : List ℕ) (n : ℕ) (left₀ left held₀ held : Option (List ℕ)) : Type 0 where
   pub ready : Ready p block out angles flags
   pub calls : List Call
   pub counted : length calls ≡ n
   pub places : p.place ≤ n
   pub fitting : Fitting start calls
   pub came : after start calls ≡ standing p block limits out
+  pub consumed : Consumes left₀ left (all_read start calls)
+  pub appended : Appends held₀ held (all_written start calls)
+  pub all_of_it : p.ended ≡ true → IfSome left₀ (λ input. all_read start calls ≡ input)
 
-module _ (block : List ℕ) (limits : List Float) (out : List ℕ) (angles : List Float) (flags : List ℕ) where
+module _ (block : List ℕ) (limits : List Float) (out : List ℕ) (angles : List Float) (flags : List ℕ) (left₀ held₀ : Option (List ℕ)) where
   pub none_made : {p : Progress} → p ≡ (record { place = 0; limited = false; filled = 0; from = 0; to = 0; ended = false; failed = false }) → length block ≡ 512 → length out ≡ 106608 → length angles ≡ 6144
-      → length flags ≡ 1024 → Reached p block limits out angles flags 0
-  unfolding after Fitting
+      → length flags ≡ 1024 → Reached p block limits out angles flags 0 left₀ left₀ held₀ held₀
+  unfolding after Fitting all_read all_written
   none_made e block_long out-long angles_long flags_long =
       rw e
       (record {
@@ -41,28 +72,58 @@ module _ (block : List ℕ) (limits : List Float) (out : List ℕ) (angles : Lis
         places = omega arith;
         fitting = tt;
         came = refl;
+        consumed = Consumes-nil left₀;
+        appended = Appends-nil held₀;
+        all_of_it = λ is. absurd (true≢false (sym is));
       })
 
-  module _ (p : Progress) (n : ℕ) (r : Reached p block limits out angles flags n) where
-    pub one_more : (q : Progress) (block' : List ℕ) (limits' : List Float) (out' : List ℕ) (angles' : List Float) (flags' : List ℕ) → Turned p block limits out q block' limits' out' → length angles' ≡ length angles → length flags' ≡ length flags
-        → Reached q block' limits' out' angles' flags' (n + 1)
-    one_more q block' limits' out' angles' flags' t same-angles same_flags =
-        let call : Call = record { gave = t.gave; behind = drop p.filled block' } in
-        let s = r.ready.sound in
-        let w = t.went in
-        let whole = w.sound.whole_block in
-        let begun : length (after start r.calls).begun ≡ p.filled =
-        rw (r.came, length-take p.filled block) (omega (arith, s.whole_block, s.room_left)) in
-        let room : length (after start r.calls).begun + length call.behind ≡ 512 = rw (begun, length-drop p.filled block') (omega (arith, s.room_left)) in
-        let at = w.stands in
-        record {
-          ready = record { sound = w.sound; angles_long = same-angles ∙ r.ready.angles_long; flags_long = same_flags ∙ r.ready.flags_long };
-          calls = r.calls ++ (call ∷ []);
-          counted = rw (length-append r.calls (call ∷ [])) (omega (arith, r.counted));
-          places = omega (arith, w.places, r.places);
-          fitting = fitting_one start r.calls call r.fitting room;
-          came = rw (after_one start r.calls call, r.came) (sym at);
-        }
+  module _ (p : Progress) (n : ℕ) (left held : Option (List ℕ)) (r : Reached p block limits out angles flags n left₀ left held₀ held) where
+    module _ (q : Progress) (block' : List ℕ) (limits' : List Float) (out' : List ℕ) (angles' : List Float) (flags' : List ℕ) (left' held' : Option (List ℕ)) (t : Turned p block limits out q block' limits' out' left left' held held') where
+      abbrev call : Call
+      call = record { gave = t.gave; behind = drop p.filled block' }
+
+      all_consumed : Consumes left₀ left' (all_read start (r.calls ++ (call ∷ [])))
+      all_consumed =
+          let m = t.moved in
+          rw (read_one start r.calls call, r.came) (Consumes-trans left₀ left left' _ _ r.consumed m.consumed)
+
+      all_appended : Appends held₀ held' (all_written start (r.calls ++ (call ∷ [])))
+      all_appended =
+          let m = t.moved in
+          rw (written_one start r.calls call, r.came) (Appends-trans held₀ held held' _ _ r.appended m.appended)
+
+      all_there : (ended : Bool) → p.ended ≡ ended → q.ended ≡ true → IfSome left₀ (λ input. all_read start (r.calls ++ (call ∷ [])) ≡ input)
+      all_there true e is =
+          let same : all_read start (r.calls ++ (call ∷ [])) ≡ all_read start r.calls =
+          read_one start r.calls call ∙ ap (λ (s : Standing). all_read start r.calls ++ reads s call) r.came
+          ∙ ap (λ (l : List ℕ). all_read start r.calls ++ l) (ended_reads (standing p block limits out) call e) ∙ append-nil (all_read start r.calls) in
+          subst (λ (xs : List ℕ). IfSome left₀ (λ input. xs ≡ input)) (sym same) (r.all_of_it e)
+      all_there false e is =
+          let m = t.moved in
+          let w = t.went in
+          let ends = m.ends (ap (λ (s : Standing). s.ended) (sym w.stands) ∙ is) e in
+          Consumes-all left₀ left' (all_read start (r.calls ++ (call ∷ []))) [] (all_read start (r.calls ++ (call ∷ []))) all_consumed ends refl
+
+      pub one_more : length angles' ≡ length angles → length flags' ≡ length flags → Reached q block' limits' out' angles' flags' (n + 1) left₀ left' held₀ held'
+      one_more same-angles same_flags =
+          let s = r.ready.sound in
+          let w = t.went in
+          let whole = w.sound.whole_block in
+          let begun : length (after start r.calls).begun ≡ p.filled =
+          rw (r.came, length-take p.filled block) (omega (arith, s.whole_block, s.room_left)) in
+          let room : length (after start r.calls).begun + length call.behind ≡ 512 = rw (begun, length-drop p.filled block') (omega (arith, s.room_left)) in
+          let at = w.stands in
+          record {
+            ready = record { sound = w.sound; angles_long = same-angles ∙ r.ready.angles_long; flags_long = same_flags ∙ r.ready.flags_long };
+            calls = r.calls ++ (call ∷ []);
+            counted = rw (length-append r.calls (call ∷ [])) (omega (arith, r.counted));
+            places = omega (arith, w.places, r.places);
+            fitting = fitting_one start r.calls call r.fitting room;
+            came = rw (after_one start r.calls call, r.came) (sym at);
+            consumed = all_consumed;
+            appended = all_appended;
+            all_of_it = all_there p.ended refl;
+          }
 
     pub served_out : 2 ^ 64 - 2 ≤ n → Served (standing p block limits out) (2 ^ 64 - 2)
     served_out h = record { calls = r.calls; fitting = r.fitting; came = r.came; done = λ few. absurd (omega (arith, r.counted)) }
@@ -72,6 +133,20 @@ module _ (block : List ℕ) (limits : List Float) (out : List ℕ) (angles : Lis
         let s = r.ready.sound in
         let stop = asked block limits out s.in_order (omega (arith, s.in_buffer, s.whole_buffer)) in
         record { calls = r.calls; fitting = r.fitting; came = r.came; done = λ _. sym stop ∙ e }
+
+    pub copied : Copied (standing p block limits out) left₀ left held₀ held
+    copied =
+        let all = right r.calls r.fitting in
+        record {
+          read = all_read start r.calls;
+          written = all_written start r.calls;
+          consumed = r.consumed;
+          appended = r.appended;
+          all_of_it = r.all_of_it;
+          whole = λ e f. all.whole (ap (λ (s : Standing). s.ended) r.came ∙ e) (ap (λ (s : Standing). s.pending) r.came ∙ f);
+          rest = all.rest;
+          beginning = all.beginning;
+        }
 
     pub sound_there : Sound p block out
     sound_there = r.ready.sound

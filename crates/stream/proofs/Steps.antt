@@ -1,7 +1,7 @@
 -- What the program's numbers, its block, its limits and its buffer stand for after each step.
 use Prim.Native.Nat.{ℕ, zero, suc, ◌+◌, ◌-◌, ◌<◌, ◌≤◌}
 use mathlib.Core.Path.{◌≡◌, refl, sym, ap, ◌∙◌}
-use mathlib.Core.Bool.{Bool, true, false, ◌||◌, cond}
+use mathlib.Core.Bool.{Bool, true, false, ◌||◌, cond, true≢false}
 use mathlib.Core.List.{List, [], ◌∷◌, ◌++◌}
 use native.Mathlib.Nat.{le_refl}
 use native.Mathlib.Omega.{arith}
@@ -10,8 +10,12 @@ use borrow.Author.Tests.{eq-eqb, ne_eqb}
 use lib.Dec.{eqb}
 use lib.Ieee.{Float}
 use lib.ListN.{length, take, drop, length-take, length-drop}
-use lib.Seq.{length-sets, take-add, take_all, take-nil, drop-drop, length-take-le}
-use Rattle.std.specs.Prelude.{Result, Ok, Err}
+use lib.Seq.{length-sets, take-add, take_all, take-nil, drop-drop, drop_at, length-take-le}
+use Rattle.std.proofs.Common.{Option, Some, None, Result, Ok, Err, append-nil, min}
+use Rattle.std.proofs.KnownBytes.{Consumes-nil, Appends-nil}
+use Rattle.std.proofs.lemmas.List.{take_min}
+use Rattle.std.specs.Io.KnownBytes.{Appends, Consumes, IsAtEnd, Keeps, ReadConsumes, WriteAppends}
+use Rattle.stream.specs.Calls.{Call, Moved, reads, writes}
 use Rattle.limits_block.specs.LimitsBlock.{limits as brought, accepted, in_force}
 use Rattle.limits_block.proofs.Accepted.{twelve}
 use Rattle.lines.specs.Lines.{lines}
@@ -229,6 +233,61 @@ module _ (block ys : List ℕ) (filled : ℕ) (inside : filled ≤ length block)
       let long = part_long after filled (length after) (omega (arith, same)) (le_refl (length after)) in
       rw (e, long, same) (omega (arith, within moved (length block - filled)))
 
+-- what a call of the system did to the bytes that are known
+keeps_consumes : (a b : Option (List ℕ)) → Keeps a b → Consumes a b []
+keeps_consumes None b k = tt
+keeps_consumes (Some x) None k = k
+keeps_consumes (Some x) (Some y) k = sym k
+
+keeps_appends : (a b : Option (List ℕ)) → Keeps a b → Appends a b []
+keeps_appends None b k = tt
+keeps_appends (Some x) None k = k
+keeps_appends (Some x) (Some y) k = k ∙ sym (append-nil x)
+
+pub written_bytes : {E : Type 0} (a b : Option (List ℕ)) (moved : Result ℕ E) (lent : List ℕ) {r : Heard} → r ≡ heard moved (length lent) → WriteAppends a b moved lent → Appends a b (take (count r) lent)
+written_bytes a b (Ok n) lent e w = rw (e, take_min n lent) w
+written_bytes a b (Err x) lent e w = rw e (keeps_appends a b w)
+
+consumed_bytes : {E : Type 0} (a b : Option (List ℕ)) (moved : Result ℕ E) (lent : List ℕ) {r : Heard} → r ≡ heard moved (length lent) → ReadConsumes a b moved lent → Consumes a b (take (count r) lent)
+consumed_bytes a b (Ok n) lent e w = rw (e, take_min n lent) w.0
+consumed_bytes a b (Err x) lent e w = rw e (keeps_consumes a b w)
+
+consumed_end : {E : Type 0} (a b : Option (List ℕ)) (moved : Result ℕ E) (lent : List ℕ) {r : Heard} → r ≡ heard moved (length lent) → ReadConsumes a b moved lent → r ≡ Bytes 0 → 0 < length lent → IsAtEnd b
+consumed_end a b (Ok n) lent e w h some =
+    let few : min n (length lent) ≡ 0 = ap count (sym e ∙ h) in
+    w.1 (omega arith) some
+consumed_end a b (Err x) lent e w h some = let f : Failed ≡ Bytes 0 = sym e ∙ h in let z : ◌≡◌ {A = ℕ} 0 1 = cc in absurd (omega arith)
+
+empty_of : (l : List ℕ) → length l ≡ 0 → l ≡ []
+empty_of [] h = refl
+empty_of (x ∷ l) h = absurd (omega arith)
+
+module _ (block ys : List ℕ) (filled : ℕ) (inside : filled ≤ length block) (h : length ys ≡ length (mid_of filled (length block - filled) block)) where
+  -- the part that was lent, after the read
+  lent_is : drop filled (after block ys filled inside h) ≡ ys
+  lent_is =
+      let rest = drop (length block - filled) (drop filled block) in
+      let none : rest ≡ [] = empty_of rest (rw (length-drop (length block - filled) (drop filled block), length-drop filled block) (omega arith)) in
+      drop_at (take filled block) (ys ++ rest) filled (length-take-le filled block inside) ∙ rw none (append-nil ys)
+
+  all_lent : take (length (after block ys filled inside h) - filled) (drop filled (after block ys filled inside h)) ≡ drop filled (after block ys filled inside h)
+  all_lent =
+      take_all (length (after block ys filled inside h) - filled) (drop filled (after block ys filled inside h))
+      (rw (length-drop filled (after block ys filled inside h)) (omega arith))
+
+  module _ {E : Type 0} (a b : Option (List ℕ)) (moved : Result ℕ E) {r : Heard}
+      (e : r ≡ heard moved (length (take (length (after block ys filled inside h) - filled) (drop filled (after block ys filled inside h))))) (w : ReadConsumes a b moved ys) where
+    of_all : r ≡ heard moved (length ys)
+    of_all = e ∙ ap (λ (l : List ℕ). heard moved (length l)) (all_lent ∙ lent_is)
+
+    pub read_bytes : Consumes a b (take (count r) (drop filled (after block ys filled inside h)))
+    read_bytes = rw lent_is (consumed_bytes a b moved ys of_all w)
+
+    pub read_at_end : r ≡ Bytes 0 → filled < length block → IsAtEnd b
+    read_at_end z some =
+        let long : length ys ≡ length block - filled = rw (h, length-take (length block - filled) (drop filled block), length-drop filled block) (omega arith) in
+        consumed_end a b moved ys of_all w z (omega arith)
+
 -- `next`
 module _ (p : Progress) where
   pub asks_none : p.failed ≡ true → Asked p Stop
@@ -295,6 +354,79 @@ module _ (place : ℕ) (limits : List Float) (begun : List ℕ) (h : Heard) (beh
   read_goes [] true false e = let z : ◌≡◌ {A = ℕ} 0 1 = cc in absurd (omega arith)
   read_goes [] false false e = refl
 
+-- a write does not end the input
+write_ends : (s : Standing) (h : Heard) → (after_write s h).ended ≡ s.ended
+unfolding after_write delivered broken
+write_ends s (Bytes n) = either (eqb n 0)
+  where
+    either : (t : Bool) → (cond t (broken s) (record { place = s.place; limits = s.limits; begun = s.begun; pending = drop n s.pending; ended = s.ended; failed = s.failed })).ended ≡ s.ended
+    either true = refl
+    either false = refl
+write_ends s Failed = refl
+
+-- nor does a read that brings bytes
+received_ends : (s : Standing) (new : List ℕ) → (received s new).ended ≡ s.ended
+unfolding received full
+received_ends s new = either (eqb (length (s.begun ++ new)) 512)
+  where
+    either : (t : Bool) → (cond t (full s (s.begun ++ new)) (record { place = s.place; limits = s.limits; begun = s.begun ++ new; pending = []; ended = s.ended; failed = s.failed })).ended ≡ s.ended
+    either true = refl
+    either false = refl
+
+read_ends : (s : Standing) (h : Heard) (behind : List ℕ) → (after_read s h behind).ended ≡ true → s.ended ≡ false → h ≡ Bytes 0
+unfolding after_read broken
+read_ends s (Bytes zero) behind is not = refl
+read_ends s (Bytes (suc n)) behind is not =
+    let more : eqb (suc n) 0 ≡ false = ne_eqb (suc n) 0 (λ z. omega arith) in
+    let there = rw more at is in
+    absurd (true≢false (sym there ∙ received_ends s (take (suc n) behind) ∙ not))
+read_ends s Failed behind is not = absurd (true≢false (sym is ∙ not))
+
+-- what was moved is what was asked
+module _ (place : ℕ) (limits : List Float) (begun : List ℕ) (h : Heard) (behind : List ℕ) where
+  abbrev call : Call
+  call = record { gave = h; behind = behind }
+
+  pub stop_moves : (left held : Option (List ℕ)) (pending : List ℕ) (ended failed : Bool) → Stop ≡ next (mk place limits begun pending ended failed)
+      → Moved (mk place limits begun pending ended failed) call left left held held
+  unfolding next go_on reads writes
+  stop_moves left held pending ended true e =
+      record { consumed = Consumes-nil left; appended = Appends-nil held; ends = λ is not. absurd (true≢false (sym is ∙ not)) }
+  stop_moves left held (x ∷ xs) ended false e = let z : ◌≡◌ {A = ℕ} 0 1 = cc in absurd (omega arith)
+  stop_moves left held [] true false e =
+      record { consumed = Consumes-nil left; appended = rw (take-nil {A = ℕ} (count h)) (Appends-nil held); ends = λ is not. absurd (true≢false (sym is ∙ not)) }
+  stop_moves left held [] false false e = let z : ◌≡◌ {A = ℕ} 0 1 = cc in absurd (omega arith)
+
+  pub write_moves : (left held₀ held : Option (List ℕ)) (pending : List ℕ) (ended failed : Bool) → Write ≡ next (mk place limits begun pending ended failed)
+      → Appends held₀ held (take (count h) pending) → Moved (mk place limits begun pending ended failed) call left left held₀ held
+  unfolding next go_on reads writes
+  write_moves left held₀ held pending ended true e more = let z : ◌≡◌ {A = ℕ} 0 1 = cc in absurd (omega arith)
+  write_moves left held₀ held (x ∷ xs) ended false e more =
+      record {
+        consumed = Consumes-nil left;
+        appended = more;
+        ends = λ is not. absurd (true≢false (sym is ∙ write_ends (mk place limits begun (x ∷ xs) ended false) h ∙ not));
+      }
+  write_moves left held₀ held [] true false e more = let z : ◌≡◌ {A = ℕ} 0 1 = cc in absurd (omega arith)
+  write_moves left held₀ held [] false false e more = let z : ◌≡◌ {A = ℕ} 0 1 = cc in absurd (omega arith)
+
+  pub read_moves : (left₀ left held : Option (List ℕ)) (pending : List ℕ) (ended failed : Bool) → Read ≡ next (mk place limits begun pending ended failed)
+      → Consumes left₀ left (take (count h) behind) → (h ≡ Bytes 0 → IsAtEnd left) → Moved (mk place limits begun pending ended failed) call left₀ left held held
+  unfolding next go_on reads writes
+  read_moves left₀ left held pending ended true e more ends = let z : ◌≡◌ {A = ℕ} 0 1 = cc in absurd (omega arith)
+  read_moves left₀ left held (x ∷ xs) ended false e more ends = let z : ◌≡◌ {A = ℕ} 0 1 = cc in absurd (omega arith)
+  read_moves left₀ left held [] true false e more ends = let z : ◌≡◌ {A = ℕ} 0 1 = cc in absurd (omega arith)
+  read_moves left₀ left held [] false false e more ends =
+      record {
+        consumed = more;
+        appended = rw (take-nil {A = ℕ} (count h)) (Appends-nil held);
+        ends = λ is not. ends (read_ends (mk place limits begun [] false false) h behind is not);
+      }
+
+-- `held`, where that name is a variable's
+abbrev held_of : Bool → ℕ
+held_of = held
+
 module _ (p : Progress) (block : List ℕ) (limits : List Float) (out : List ℕ) {ask : Ask} (s : Sound p block out) (asked : Asked p ask) where
   asked_here : ask ≡ next (standing p block limits out)
   asked_here = asked block limits out s.in_order (omega (arith, s.in_buffer, s.whole_buffer))
@@ -302,22 +434,36 @@ module _ (p : Progress) (block : List ℕ) (limits : List Float) (out : List ℕ
   pending : List ℕ
   pending = take (p.to - p.from) (drop p.from out)
 
-  pub turned_stop : ask ≡ Stop → Turned p block limits out p block limits out
+  pub turned_stop : (left held : Option (List ℕ)) → ask ≡ Stop → Turned p block limits out p block limits out left left held held
   unfolding pending
-  turned_stop e =
-      let same = stop_stays p.place (take (held p.limited) limits) (take p.filled block) Failed (drop p.filled block) pending p.ended p.failed (sym e ∙ asked_here) in
-      record { gave = Failed; went = record { stands = sym same; sound = s; places = omega arith } }
+  turned_stop left held e =
+      let same = stop_stays p.place (take (held_of p.limited) limits) (take p.filled block) Failed (drop p.filled block) pending p.ended p.failed (sym e ∙ asked_here) in
+      record {
+        gave = Failed;
+        went = record { stands = sym same; sound = s; places = omega arith };
+        moved = stop_moves p.place (take (held_of p.limited) limits) (take p.filled block) Failed (drop p.filled block) left held pending p.ended p.failed (sym e ∙ asked_here);
+      }
 
-  pub turned_write : (gave : Heard) {r : Progress} → ask ≡ Write → p.from + count gave ≤ p.to → r ≡ wrote p (count gave) → Turned p block limits out r block limits out
+  pub turned_write : (left held₀ held : Option (List ℕ)) (gave : Heard) {r : Progress} → ask ≡ Write → p.from + count gave ≤ p.to → r ≡ wrote p (count gave)
+      → Appends held₀ held (take (count gave) (take (p.to - p.from) (drop p.from out))) → Turned p block limits out r block limits out left left held₀ held
   unfolding pending
-  turned_write gave e fits w =
-      let goes = write_goes p.place (take (held p.limited) limits) (take p.filled block) gave (drop p.filled block) pending p.ended p.failed (sym e ∙ asked_here) in
-      record { gave = gave; went = rw (goes, w) (writes_on p block limits out s gave fits) }
+  turned_write left held₀ held gave e fits w more =
+      let goes = write_goes p.place (take (held_of p.limited) limits) (take p.filled block) gave (drop p.filled block) pending p.ended p.failed (sym e ∙ asked_here) in
+      record {
+        gave = gave;
+        went = rw (goes, w) (writes_on p block limits out s gave fits);
+        moved = write_moves p.place (take (held_of p.limited) limits) (take p.filled block) gave (drop p.filled block) left held₀ held pending p.ended p.failed (sym e ∙ asked_here) more;
+      }
 
-  pub turned_read : (gave : Heard) (block' : List ℕ) {limits' : List Float} {out' : List ℕ} {r : Progress} → ask ≡ Read → take p.filled block' ≡ take p.filled block
-      → Went (after_read (standing p block' limits out) gave (drop p.filled block')) r p.place block' limits' out' → Turned p block limits out r block' limits' out'
+  pub turned_read : (left₀ left held : Option (List ℕ)) (gave : Heard) (block' : List ℕ) {limits' : List Float} {out' : List ℕ} {r : Progress} → ask ≡ Read → take p.filled block' ≡ take p.filled block
+      → Consumes left₀ left (take (count gave) (drop p.filled block')) → (gave ≡ Bytes 0 → IsAtEnd left)
+      → Went (after_read (standing p block' limits out) gave (drop p.filled block')) r p.place block' limits' out' → Turned p block limits out r block' limits' out' left₀ left held held
   unfolding pending
-  turned_read gave block' e same w =
-      let goes = read_goes p.place (take (held p.limited) limits) (take p.filled block) gave (drop p.filled block') pending p.ended p.failed (sym e ∙ asked_here) in
+  turned_read left₀ left held gave block' e same more ends w =
+      let goes = read_goes p.place (take (held_of p.limited) limits) (take p.filled block) gave (drop p.filled block') pending p.ended p.failed (sym e ∙ asked_here) in
       let w' = rw same at w in
-      record { gave = gave; went = rw goes w' }
+      record {
+        gave = gave;
+        went = rw goes w';
+        moved = read_moves p.place (take (held_of p.limited) limits) (take p.filled block) gave (drop p.filled block') left₀ left held pending p.ended p.failed (sym e ∙ asked_here) more ends;
+      }

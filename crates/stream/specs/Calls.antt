@@ -1,5 +1,6 @@
 -- What a run of calls of the system reads and prints.
-use Rattle.std.specs.Prelude.{ℕ, ◌+◌, ◌<◌, ◌≡◌, true, cond, List, [], ◌∷◌, ◌++◌, length, take}
+use Rattle.std.specs.Prelude.{ℕ, ◌+◌, ◌<◌, ◌≡◌, true, cond, List, [], ◌∷◌, ◌++◌, length, take, false, Option, IfSome}
+use Rattle.std.specs.Io.KnownBytes.{Appends, Consumes, IsAtEnd}
 use Rattle.stream.specs.Standing.{Standing, start, some, count, next, go_on}
 use Rattle.stream.specs.Output.{output}
 use Rattle.stream.specs.declared.progress.Ask.TheVariants.{Stop}
@@ -50,3 +51,25 @@ pub record Served (s : Standing) (most : ℕ) : Type 0 where
   pub fitting : Fitting start calls
   pub came : after start calls ≡ s
   pub done : length calls < most → next s ≡ Stop
+
+-- what one call did to the bytes that its reader has left and to those that its writer holds, where these are known
+pub record Moved (s : Standing) (c : Call) (left₀ left held₀ held : Option (List ℕ)) : Type 0 where
+  pub consumed : Consumes left₀ left (reads s c)
+  pub appended : Appends held₀ held (writes s c)
+  -- nothing but the end of the input ends it
+  pub ends : (go_on s c.gave c.behind).ended ≡ true → s.ended ≡ false → IsAtEnd left
+
+-- What a run did to them. (Of standard input and output they are not known; of a list of bytes in memory they are.)
+pub record Copied (s : Standing) (left₀ left held₀ held : Option (List ℕ)) : Type 0 where
+  -- what was read and what was written
+  pub read : List ℕ
+  pub written : List ℕ
+  pub consumed : Consumes left₀ left read
+  pub appended : Appends held₀ held written
+  -- where the input has ended, all of it was read
+  pub all_of_it : s.ended ≡ true → IfSome left₀ (λ input. read ≡ input)
+  -- at its end, with nothing left to write, all lines of what was read were written, and nothing else
+  pub whole : s.ended ≡ true → s.pending ≡ [] → written ≡ output read
+  -- at any other time, also after a failure, what was written is a beginning of them
+  pub rest : List ℕ
+  pub beginning : written ++ rest ≡ output read

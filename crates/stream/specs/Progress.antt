@@ -1,6 +1,7 @@
 -- The standing that the program's numbers, its block, its limits and its buffer stand for.
-use Rattle.std.specs.Prelude.{ℕ, ◌+◌, ◌-◌, ◌<◌, ◌≤◌, ◌≡◌, Bool, true, cond, List, eqb, Float, length, take, drop}
+use Rattle.std.specs.Prelude.{ℕ, ◌+◌, ◌-◌, ◌<◌, ◌≤◌, ◌≡◌, Bool, true, cond, List, eqb, Float, length, take, drop, Option}
 use Rattle.stream.specs.Standing.{Standing, next, go_on}
+use Rattle.stream.specs.Calls.{Moved}
 use Rattle.stream.specs.declared.progress.Ask.{Ask}
 use Rattle.stream.specs.declared.progress.Heard.{Heard}
 use Rattle.stream.specs.declared.progress.Progress.{Progress}
@@ -54,7 +55,8 @@ pub record Went (s : Standing) (p : Progress) (place : ℕ) (block : List ℕ) (
 abbrev pub Asked : Progress → Ask → Type 0
 Asked p ask = (block : List ℕ) (limits : List Float) (out : List ℕ) → p.from ≤ p.to → p.to ≤ length out → ask ≡ next (standing p block limits out)
 
--- one call: what it gave is the system's to say; the bytes read before it stay, and the program goes on as the definition does
-pub record Turned (p : Progress) (block₀ : List ℕ) (limits₀ : List Float) (out₀ : List ℕ) (r : Progress) (block : List ℕ) (limits : List Float) (out : List ℕ) : Type 0 where
+-- one call: what it gave is the system's to say; the bytes read before it stay, the program goes on as the definition does, and what it moved is what it gave
+pub record Turned (p : Progress) (block₀ : List ℕ) (limits₀ : List Float) (out₀ : List ℕ) (r : Progress) (block : List ℕ) (limits : List Float) (out : List ℕ) (left₀ left held₀ held : Option (List ℕ)) : Type 0 where
   pub gave : Heard
   pub went : Went (go_on (standing p block₀ limits₀ out₀) gave (drop p.filled block)) r p.place block limits out
+  pub moved : Moved (standing p block₀ limits₀ out₀) (record { gave = gave; behind = drop p.filled block }) left₀ left held₀ held

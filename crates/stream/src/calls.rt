@@ -1,8 +1,9 @@
 // Reading and writing: the system is asked what progress.rt says, and progress.rt is told what it
 // gave.
-ghost use Rattle.std.specs.Prelude.{◌≡◌, ◌+◌, ◌-◌, ◌≤◌, ◌<◌, ◌^◌, length, take};
+ghost use Rattle.std.specs.Prelude.{◌≡◌, ℕ, ◌+◌, ◌-◌, ◌≤◌, ◌<◌, ◌^◌, List, Option, length, take, drop};
+ghost use Rattle.std.specs.Io.KnownBytes.{Appends, Consumes, IsAtEnd};
 ghost use Rattle.stream.specs.Standing.{count};
-ghost use Rattle.stream.specs.Calls.{Served};
+ghost use Rattle.stream.specs.Calls.{Served, Copied};
 ghost use Rattle.stream.specs.Progress.{standing, Asked, Sound, Ready, Turned};
 
 use crate::progress::{Ask, Heard, Limits, Progress, after_read, after_write, hear, next, start};
@@ -16,6 +17,8 @@ fn read_on<I: Read>(input: &mut I, block: &mut [u8], filled: usize) -> Heard
     ensures result_in_bounds { filled + count result ≤ length block.old }
     ensures block_unchanged { take filled block.new ≡ take filled block.old }
     ensures block_len_unchanged { length block.new ≡ length block.old }
+    ensures bytes { Consumes (I.remaining input.old) (I.remaining input.new) (take (count result) (drop filled block.new)) }
+    ensures end { result ≡ Heard.Bytes 0 → filled < length block.old → IsAtEnd (I.remaining input.new) }
 {
     let moved = input.read(&mut block[filled..]);
     hear(moved, &block[filled..])
@@ -24,7 +27,8 @@ fn read_on<I: Read>(input: &mut I, block: &mut [u8], filled: usize) -> Heard
 // One write of a part of the buffer.
 fn write_on<O: Write>(output: &mut O, out: &[u8], from: usize, to: usize) -> Heard
     requires { (from ≤ to) × (to ≤ length out.now) }
-    ensures { from + count result ≤ to }
+    ensures result_in_bounds { from + count result ≤ to }
+    ensures bytes { Appends (O.contents output.old) (O.contents output.new) (take (count result) (take (to - from) (drop from out.now))) }
 {
     let moved = output.write(&out[from..to]);
     hear(moved, &out[from..to])
@@ -41,7 +45,7 @@ fn read_turn<I: Read>(
     out: &mut Buffer,
 ) -> Progress
     requires { Ready p block.old out.old angles.old flags.old × (p.place + 1 < 2 ^ 64) × Asked p Ask.Read }
-    ensures { Turned p block.old limits.old out.old result block.new limits.new out.new }
+    ensures { (held : Option (List ℕ)) → Turned p block.old limits.old out.old result block.new limits.new out.new (I.remaining input.old) (I.remaining input.new) held held }
 {
     let gave = read_on(input, block, p.filled);
     after_read(p, gave, block, limits, angles, flags, out)
@@ -60,7 +64,8 @@ fn turn<I: Read, O: Write>(
     out: &mut Buffer,
 ) -> Progress
     requires { Ready p block.old out.old angles.old flags.old × (p.place + 1 < 2 ^ 64) × Asked p ask }
-    ensures { Turned p block.old limits.old out.old result block.new limits.new out.new }
+    ensures { Turned p block.old limits.old out.old result block.new limits.new out.new
+        (I.remaining input.old) (I.remaining input.new) (O.contents output.old) (O.contents output.new) }
 {
     match ask {
         Ask::Stop => p,
@@ -69,8 +74,9 @@ fn turn<I: Read, O: Write>(
     }
 }
 
-// Calls until nothing more is asked. (No run comes to the last count.)
-fn serve<I: Read, O: Write>(
+// Calls until nothing more is asked. (No run comes to the last count.) What is written is the lines
+// of what is read, or a beginning of them.
+pub fn serve<I: Read, O: Write>(
     input: &mut I,
     output: &mut O,
     block: &mut [u8],
@@ -80,7 +86,9 @@ fn serve<I: Read, O: Write>(
     out: &mut Buffer,
 ) -> Progress
     requires { (length block.old ≡ 512) × (length out.old ≡ 106608) × (length angles.old ≡ 6144) × (length flags.old ≡ 1024) }
-    ensures { Served (standing result block.new limits.new out.new) (2 ^ 64 - 2) }
+    ensures served { Served (standing result block.new limits.new out.new) (2 ^ 64 - 2) }
+    ensures copied { Copied (standing result block.new limits.new out.new)
+        (I.remaining input.old) (I.remaining input.new) (O.contents output.old) (O.contents output.new) }
 {
     let mut p = start();
     let mut calls: u64 = 0;

@@ -1,13 +1,16 @@
 -- `serve`: each turn is one call more.
 use Rattle.std.proofs.Common.{arith, rules}
-use Rattle.stream.proofs.Reached.{none_made, one_more, served_out, served_all}
+use Rattle.stream.proofs.Reached.{none_made, one_more, served_out, served_all, copied}
 use Rattle.stream.proofs.calls.serve.Goals as goal
 
 pub loop-calls-init : goal.loop-calls-init
 loop-calls-init g c = (omega arith, omega arith, omega arith, omega arith, search none_made)
 
-pub returns-in-Stop : goal.returns-in-Stop
-returns-in-Stop g c = search served_all
+pub returns-in-Stop-clause-served : goal.returns-in-Stop-clause-served
+returns-in-Stop-clause-served g c = search served_all
+
+pub returns-in-Stop-clause-copied : goal.returns-in-Stop-clause-copied
+returns-in-Stop-clause-copied g c = search copied
 
 pub turn-p-requires : goal.turn-p-requires
 turn-p-requires g c = (search rules, omega arith, search rules)
@@ -15,5 +18,8 @@ turn-p-requires g c = (search rules, omega arith, search rules)
 pub loop-calls-preserved : goal.loop-calls-preserved
 loop-calls-preserved g c = (omega arith, omega arith, omega arith, omega arith, search one_more)
 
-pub returns : goal.returns
-returns g c = search served_out
+pub returns-clause-served : goal.returns-clause-served
+returns-clause-served g c = search served_out
+
+pub returns-clause-copied : goal.returns-clause-copied
+returns-clause-copied g c = search copied

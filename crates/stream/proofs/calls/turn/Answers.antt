@@ -10,7 +10,7 @@ pub read_turn-requires : goal.read_turn-requires
 read_turn-requires g c = (search rules, search rules, search asked_read)
 
 pub returns-in-Stop : goal.returns-in-Stop
-returns-in-Stop g c = search (turned_stop, turned_write)
+returns-in-Stop g c = search turned_stop
 
 pub returns-in-Write : goal.returns-in-Write
-returns-in-Write g c = search (turned_stop, turned_write)
+returns-in-Write g c = search turned_write
