@@ -48,7 +48,7 @@ def make_limits(limits):
 
 def command(text=None):
     """The words that start the solver program: `text` if given, else the variable IK_PROGRAM, else
-    target/bin/ik. What rt built runs under the loader and the C library of the kit, as rt runs it."""
+    target/bin/ik, which runs under the loader and the C library of the toolchain."""
     text = text or os.environ.get("IK_PROGRAM")
     if text:
         return shlex.split(text)
@@ -59,11 +59,8 @@ def command(text=None):
         guide = subprocess.run(["rt", "doc"], capture_output=True, text=True, check=True).stdout
     except (OSError, subprocess.CalledProcessError):
         raise NoProgram("the Rattle toolchain (rt) is needed to run target/bin/ik") from None
-    tools = pathlib.Path(guide.strip()).parent.parent / "on" / os.uname().machine / "toolchain"
-    emulator = tools / "bin" / "qemu-x86_64"
-    words = [str(emulator)] if emulator.exists() else []
-    loader = tools / "lib" / "ld-linux-x86-64.so.2"
-    return words + [str(loader), "--library-path", str(tools / "lib"), str(program)]
+    libraries = pathlib.Path(guide.strip()).parent / "toolchain" / "lib"
+    return [str(libraries / "ld-linux-x86-64.so.2"), "--library-path", str(libraries), str(program)]
 
 
 def run(words, blocks):

@@ -5,7 +5,7 @@
 #   tools/example_c.sh [track | arms | WORD]
 set -eu
 cd "$(dirname "$0")/.."
-rt staticlib saihkeb >/dev/null
+tools/staticlib.sh saihkeb >/dev/null
 mkdir -p target/examples
 for one in solve track arms; do
     ${CC:-cc} -std=c11 -O2 -Wall -Wextra -I include -o "target/examples/${one}_c" "examples/c/$one.c" \

@@ -4,7 +4,7 @@
 # that is found in a file of arms. Needs rt and rustc.   tools/example_rust.sh [WORD]
 set -eu
 cd "$(dirname "$0")/.."
-rt staticlib saihkeb >/dev/null
+tools/staticlib.sh saihkeb >/dev/null
 mkdir -p target/examples
 rustc --edition 2021 -O -o target/examples/solve_rust examples/rust/main.rs \
     -L native=target/staticlib -l static=saihkeb

@@ -1,13 +1,10 @@
 #!/usr/bin/env bash
-# Runs a program that rt built, as rt runs it: under the loader and the C library of the kit, which
-# the machine's own may be older than.
+# Runs a program that tools/build.sh built, under the loader and the C library of the toolchain, which the
+# machine's own may be older than.
 #   tools/program.sh NAME [ARGUMENT..]
 set -eu
 cd "$(dirname "$0")/.."
-kit=$(dirname "$(dirname "$(rt doc)")")
-tools=$kit/on/$(uname -m)/toolchain
-emulator=$tools/bin/qemu-x86_64
-[ -x "$emulator" ] || emulator=
+libraries=$(dirname "$(rt doc)")/toolchain/lib
 name=$1
 shift
-exec ${emulator:+"$emulator"} "$tools/lib/ld-linux-x86-64.so.2" --library-path "$tools/lib" "target/bin/$name" "$@"
+exec "$libraries/ld-linux-x86-64.so.2" --library-path "$libraries" "target/bin/$name" "$@"

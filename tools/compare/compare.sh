@@ -25,7 +25,7 @@ log=$(mktemp -d)
 trap 'rm -rf "$log"' EXIT
 cargo build --release --offline --quiet --manifest-path oracle/Cargo.toml
 oracle=${CARGO_TARGET_DIR:-oracle/target}/release/oracle
-if ! rt check "${groups[@]/%/_vectors}" >"$log/rt" 2>&1; then
+if ! tools/build.sh "${groups[@]/%/_vectors}" >"$log/rt" 2>&1; then
     tail -n 5 "$log/rt" >&2
     exit 1
 fi

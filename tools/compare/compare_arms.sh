@@ -20,7 +20,7 @@ count=$1 seed=${2:-1}
 chunk=4000
 
 if [ -z "$library" ]; then
-    rt staticlib saihkeb >/dev/null
+    tools/staticlib.sh saihkeb >/dev/null
     library=target/staticlib/libsaihkeb.a
 fi
 cargo build --release --offline --quiet --manifest-path oracle/Cargo.toml

@@ -16,7 +16,7 @@ dir=$(mktemp -d)
 trap 'rm -rf "$dir"' EXIT
 cargo build --release --offline --quiet --manifest-path oracle/Cargo.toml
 oracle=${CARGO_TARGET_DIR:-oracle/target}/release/oracle
-if ! rt check search_vectors >"$dir/rt" 2>&1; then
+if ! tools/build.sh search_vectors >"$dir/rt" 2>&1; then
     tail -n 5 "$dir/rt" >&2
     exit 1
 fi

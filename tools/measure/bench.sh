@@ -20,7 +20,7 @@ while getopts c:t:r: option; do
         *) exit 2 ;;
     esac
 done
-rt staticlib saihkeb >/dev/null
+tools/staticlib.sh saihkeb >/dev/null
 mkdir -p target/bench
 bench=target/bench/solve
 built=target/untouched/built/release

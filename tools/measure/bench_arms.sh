@@ -9,7 +9,7 @@ set -euo pipefail
 library=$([ -z "${SAIHKEB_LIBRARY:-}" ] || realpath "$SAIHKEB_LIBRARY")
 cd "$(dirname "$0")/../.."
 if [ -z "$library" ]; then
-    rt staticlib saihkeb >/dev/null
+    tools/staticlib.sh saihkeb >/dev/null
     library=target/staticlib/libsaihkeb.a
 fi
 [ $# -gt 0 ] || set -- 10 100 1000 10000

@@ -3,7 +3,7 @@
 # callgrind instructions, for each call. Needs rt, rustc and valgrind.
 set -eu
 cd "$(dirname "$0")/../.."
-rt staticlib float_c >/dev/null
+tools/staticlib.sh float_c >/dev/null
 mkdir -p target/bench
 rustc -O --edition 2021 -o target/bench/float tools/measure/bench/float.rs -L target/staticlib
 declare -A ns

@@ -6,7 +6,7 @@
 #   tools/measure/bench_functions.sh [GROUP..]
 set -eu
 cd "$(dirname "$0")/../.."
-rt staticlib calls_c >/dev/null
+tools/staticlib.sh bench_c calls_c >/dev/null
 mkdir -p target/bench
 rustc -C opt-level=3 --edition 2021 -o target/bench/functions tools/measure/bench/functions.rs -L target/staticlib
 count() {

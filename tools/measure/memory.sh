@@ -5,7 +5,7 @@
 set -euo pipefail
 cd "$(dirname "$0")/../.."
 count=${1:-100}
-rt staticlib saihkeb >/dev/null
+tools/staticlib.sh saihkeb >/dev/null
 cargo build --release --offline --quiet --manifest-path oracle/Cargo.toml
 oracle=${CARGO_TARGET_DIR:-oracle/target}/release/oracle
 mkdir -p target/bench

@@ -1,6 +1,6 @@
 #!/usr/bin/env bash
-# Prints the command that starts the solver program under valgrind: the object file that rt compiled,
-# linked with the machine's own C library to target/native/ik, for valgrind can't run the kit's. The
+# Prints the command that starts the solver program under valgrind: the object file that rt compiled
+# (tools/build.sh ik), linked with the machine's own C library to target/native/ik, for valgrind can't run the kit's. The
 # environment variable IK_PROGRAM names another program instead. Needs cc.
 set -eu
 cd "$(dirname "$0")/../.."
@@ -8,7 +8,7 @@ if [ -n "${IK_PROGRAM:-}" ]; then
     echo "$IK_PROGRAM"
     exit
 fi
-[ -f target/obj/ik.o ] || { echo "target/obj/ik.o is missing: rt check ik" >&2; exit 1; }
+[ -f target/obj/ik.o ] || { echo "target/obj/ik.o is missing: tools/build.sh ik" >&2; exit 1; }
 mkdir -p target/native
 cc -o target/native/ik target/obj/ik.o -lm
 echo target/native/ik

@@ -11,7 +11,7 @@ log=$(mktemp -d)
 trap 'rm -rf "$log"' EXIT
 tools/example_c.sh >"$log/c"
 tools/example_rust.sh >"$log/rust"
-rt check ik >/dev/null
+tools/build.sh ik >/dev/null
 cargo build --release --offline --quiet --manifest-path oracle/Cargo.toml
 oracle=${CARGO_TARGET_DIR:-oracle/target}/release/oracle
 

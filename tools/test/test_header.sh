@@ -4,7 +4,7 @@
 # rounding and stack. Needs rt, a C and a C++ compiler.   tools/test/test_header.sh
 set -eu
 cd "$(dirname "$0")/../.."
-rt staticlib saihkeb >/dev/null
+tools/staticlib.sh saihkeb >/dev/null
 mkdir -p target/examples
 warnings='-Wall -Wextra -Wpedantic -Wshadow -Werror'
 ${CC:-cc} -std=c99 -O2 $warnings -pthread -D_POSIX_C_SOURCE=200809L -I include -o target/examples/header_c \
