@@ -1,5 +1,6 @@
 // The counts: 32 of cases and then 32 of mismatches (specs/Tally.antt).
-ghost use Rattle.std.specs.Prelude.{◌≡◌, ◌<◌, ◌≤◌, length};
+ghost use Rattle.std.specs.Prelude.{◌≡◌, ◌<◌, ◌≤◌, true, length, take};
+ghost use Rattle.std.specs.Io.KnownBytes.{Consumes};
 ghost use Rattle.cases.specs.Tally.{bumped, noted, noted_twice, counted, Read};
 
 use std::io;
@@ -49,9 +50,10 @@ pub fn count(tally: &mut [u64; 64], n: u64, id: u64, ok: bool)
 }
 
 // Reads until the record is full, the input ends or a read fails, and returns how many bytes there
-// are at its start.
+// are at its start: these, and no others, were read.
 fn read_full<I: Read>(input: &mut I, bytes: &mut [u8]) -> usize
-    ensures { result ≤ length bytes.new }
+    ensures result_in_bounds { result ≤ length bytes.new }
+    ensures consumed { Consumes (I.remaining input.old) (I.remaining input.new) (take result bytes.new) }
 {
     let mut done: usize = 0;
     while done < bytes.len() {
@@ -63,10 +65,11 @@ fn read_full<I: Read>(input: &mut I, bytes: &mut [u8]) -> usize
     done
 }
 
-// Reads the next record, and answers whether there is a whole one. A part of one at the end is a
-// mismatch.
+// Reads the next record, and answers whether there is a whole one, which is then what was read. A
+// part of one at the end is a mismatch.
 pub fn next<I: Read>(input: &mut I, bytes: &mut [u8], tally: &mut [u64; 64]) -> bool
-    ensures { Read result tally.old tally.new }
+    ensures counts { Read result tally.old tally.new }
+    ensures whole { result ≡ true → Consumes (I.remaining input.old) (I.remaining input.new) bytes.new }
 {
     let n = read_full(input, bytes);
     if n == bytes.len() {
