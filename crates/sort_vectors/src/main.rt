@@ -2,9 +2,13 @@
 // Standard input has records of 99 words: the id of a function, the number of the candidates, room
 // for sixteen of them, and 49 words of results, as `oracle layout` has them. `oracle cases sort 1 100`
 // made the stored cases; tools/compare/compare.sh runs others.
+#![tactic(auto)]
+
 ghost use Rattle.std.specs.Prelude.{◌+◌, ◌≤◌};
 
 use solutionset::{Triple, TripleSet4};
+use std::io;
+use std::io::{Stdin, Stdout};
 use triple_sort::{Ordered, sort};
 
 const FUNCTIONS: u64 = 2;
@@ -53,15 +57,13 @@ fn read(bytes: &[u8; 792]) -> Candidates {
     };
     let mut solutions = [none; 16];
     let mut by_first = [empty; 16];
-    let mut i: usize = 0;
-    while i < 16 {
+    for i in 0..16 {
         let solution = triple(bytes, CANDIDATES + 3 * i);
         solutions[i] = solution;
         by_first[i] = Ordered {
             ordering: solution.first,
             solution,
         };
-        i += 1;
     }
     Candidates {
         solutions,
@@ -80,13 +82,11 @@ fn gives_triple(bytes: &[u8; 792], i: usize, t: Triple) -> bool
 
 // A slot past the last candidate holds zeros, in a record too.
 fn gives_slots(bytes: &[u8; 792], slots: [Ordered; 16]) -> bool {
-    let mut i: usize = 0;
-    while i < 16 {
+    for i in 0..16 {
         let o = slots[i];
         if !gives_triple(bytes, RESULTS + 3 * i, o.solution) {
             return false;
         }
-        i += 1;
     }
     true
 }
@@ -114,8 +114,7 @@ fn with_gaps(given: [Ordered; 16], n: usize) -> [Ordered; 16]
 {
     let mut t = given;
     let mut last = float::infinity();
-    let mut i: usize = 0;
-    while i < n {
+    for i in 0..n {
         let o = t[i];
         let solution = o.solution;
         let delta = solution.first - last;
@@ -124,7 +123,6 @@ fn with_gaps(given: [Ordered; 16], n: usize) -> [Ordered; 16]
             solution,
         };
         last = solution.first;
-        i += 1;
     }
     t
 }
@@ -187,9 +185,9 @@ fn agrees(bytes: &[u8; 792], id: u64) -> bool {
 }
 
 // Checks one record, and answers whether there was a whole one.
-fn check(tally: &mut [u64; 64]) -> bool {
+fn check(input: &mut Stdin, tally: &mut [u64; 64]) -> bool {
     let mut bytes = [0u8; 792];
-    if !cases::next(&mut bytes, tally) {
+    if !cases::next(input, &mut bytes, tally) {
         return false;
     }
     let id = cases::word(&bytes, 0);
@@ -198,18 +196,20 @@ fn check(tally: &mut [u64; 64]) -> bool {
     true
 }
 
-// Input of any length: the count of turns is one that no run uses up.
-fn check_all(tally: &mut [u64; 64]) {
-    let mut turns = u64::MAX;
-    while turns > 0 && check(tally) {
-        turns -= 1;
+// Input of any length: no run uses up the turns.
+fn check_all(input: &mut Stdin, tally: &mut [u64; 64]) {
+    for _ in 0..u64::MAX {
+        if !check(input, tally) {
+            return;
+        }
     }
 }
 
-fn main() {
+fn main(rt: HostRuntime) -> io::Result<()> {
+    let out = rt.stdout();
     let mut tally = [0u64; 64];
-    check_all(&mut tally);
-    cases::line(b"sort", &tally, 0);
-    cases::line(b"reduced_with_passes", &tally, 1);
-    cases::end(&tally);
+    check_all(&mut rt.stdin(), &mut tally);
+    cases::line(&out, b"sort", &tally, 0)?;
+    cases::line(&out, b"reduced_with_passes", &tally, 1)?;
+    cases::end(&out, &tally)
 }
