@@ -2,14 +2,7 @@
 use Rattle.step_pairs.specs.Landed.{lists}
 use Rattle.step_edge.specs.State.{gap_of}
 use Rattle.step_edge.proofs.EdgeLaws.{edge_starts}
-use Rattle.step_edge.proofs.edge.edge_way.Statement.{statement}
-use Rattle.step_edge.proofs.edge.edge_way.Tie as tie
+use Rattle.step_edge.proofs.edge.edge_way.Goals as goal
 
-returns : tie.Need-returns
+pub returns : goal.returns
 returns c = λ o u v q k. edge_starts o (lists q k c.args.pairs) (gap_of c.args.g)
-
-pub edge-way-spec : {M : Type 1} → statement M
-edge-way-spec =
-    tie.close
-    (tie.spec
-    returns)
