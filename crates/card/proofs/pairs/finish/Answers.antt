@@ -19,8 +19,7 @@ use Rattle.full_list.proofs.Laws.{listed_long}
 use Rattle.solve.specs.declared.Solved.{Solved}
 use Rattle.card.specs.Usable.{usable, pair_answers}
 use Rattle.card.proofs.UsableLaws.{all_usable}
-use Rattle.card.proofs.pairs.finish.Statement.{statement}
-use Rattle.card.proofs.pairs.finish.Tie as tie
+use Rattle.card.proofs.pairs.finish.Goals as goal
 
 abbrev list_of : ℕ → ℕ → FullList
 list_of pairs evals = record { answers = pairs; evals = evals; searched = true }
@@ -62,19 +61,8 @@ module _ (arm pose qs : List Float) (cs : List ℕ) (pairs evals : ℕ) (a39 : l
 none : (l : List Float) → TwelveOrNone (take 0 l)
 none l h = absurd (h refl)
 
-write-allowed-requires : tie.Need-write-allowed-requires
-write-allowed-requires c κs = (search sound, search none)
+pub write_allowed-count-requires : goal.write_allowed-count-requires
+write_allowed-count-requires c = (search sound, search none)
 
-returns : tie.Need-returns
-returns c = (search result, (search angles-written, search flags-written))
-
-pub finish_spec : {M : Type 1} → statement M
-finish_spec =
-    tie.close
-    (tie.spec
-    (λ c. search rules)
-    write-allowed-requires
-    (λ c κs. search rules)
-    (λ c. search rules)
-    (λ c. search rules)
-    returns)
+pub returns : goal.returns
+returns c = record { result = search result; angles = search angles-written; flags = search flags-written }

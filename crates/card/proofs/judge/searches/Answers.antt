@@ -14,8 +14,7 @@ use Rattle.refusals.specs.Judge.{judge}
 use Rattle.limits.specs.Limits.{refusal_10}
 use Rattle.solve.specs.Solve.{refused}
 use Rattle.card.specs.Machine.{block_refused, searches}
-use Rattle.card.proofs.judge.searches.Statement.{statement}
-use Rattle.card.proofs.judge.searches.Tie as tie
+use Rattle.card.proofs.judge.searches.Goals as goal
 
 and-false : (a : Bool) → false ≡ a && false
 and-false true = refl
@@ -44,27 +43,11 @@ module _ (block : List ℕ) {first : ℕ} (e : first ≡ Block.refusal block) wh
         and-true true = refl
         and-true false = refl
 
-returns : tie.Need-returns
-returns c = search damaged
+pub returns-then-refusal-ne0 : goal.returns-then-refusal-ne0
+returns-then-refusal-ne0 c = search damaged
 
-returns-2 : tie.Need-returns-2
-returns-2 c = search other
+pub returns-then-family-ne6 : goal.returns-then-family-ne6
+returns-then-family-ne6 c = search other
 
-returns-3 : tie.Need-returns-3
-returns-3 c = search judged
-
-pub searches-spec : {M : Type 1} → statement M
-searches-spec =
-    tie.close
-    (tie.spec
-    (λ _ _. tt)
-    returns
-    (λ c κs. search rules)
-    returns-2
-    (λ c κs. search rules)
-    (λ c κs. search rules)
-    (λ c κs. search rules)
-    (λ c. search rules)
-    (λ c. search rules)
-    (λ c κs. search rules)
-    returns-3)
+pub returns : goal.returns
+returns c = search judged

@@ -13,8 +13,7 @@ use Rattle.kinematics.specs.Pose.{pose_rotation, pose_place}
 use Rattle.kinematics.specs.declared.Kinematics.{Kinematics}
 use Rattle.search_error.specs.Error.{t64_count}
 use Rattle.card.specs.Usable.{answered}
-use Rattle.card.proofs.pairs.answered.Statement.{statement}
-use Rattle.card.proofs.pairs.answered.Tie as tie
+use Rattle.card.proofs.pairs.answered.Goals as goal
 
 met : (arm pose : List Float) (q1 : Float) (i : ℕ) {kin : Kinematics} {r : Matrix} {p : Vector3} {n : ℕ}
     → kin ≡ from_numbers arm
@@ -25,8 +24,5 @@ met : (arm pose : List Float) (q1 : Float) (i : ℕ) {kin : Kinematics} {r : Mat
 unfolding answered
 met arm pose q1 i e-kin e-r e-p e = rw (e, e-kin, e-r, e-p)
 
-returns : tie.Need-returns
+pub returns : goal.returns
 returns c = search met
-
-pub answered-spec : {M : Type 1} → statement M
-answered-spec = tie.close (tie.spec (λ c κs. search rules) (λ c κs. search rules) (λ c κs. search rules) (λ c κs. search rules) returns)

@@ -12,8 +12,7 @@ use Rattle.search_error.specs.Fixed.{fixed, given_q1, t64}
 use Rattle.search_error.specs.declared.Fixed.{Fixed}
 use Rattle.search_error.specs.declared.GivenQ1.{GivenQ1}
 use Rattle.search_error.proofs.SameError.{t64_same}
-use Rattle.card.proofs.pairs.t64_count.Statement.{statement}
-use Rattle.card.proofs.pairs.t64_count.Tie as tie
+use Rattle.card.proofs.pairs.t64_count.Goals as goal
 
 met : (r_06 : Matrix) (p_0t : Vector3) (kin : Kinematics) (q1 : Float) {g : Fixed} {t : GivenQ1} {set : PairSet4} {n : ℕ}
     → g ≡ fixed kin r_06 p_0t
@@ -23,8 +22,5 @@ met : (r_06 : Matrix) (p_0t : Vector3) (kin : Kinematics) (q1 : Float) {g : Fixe
     → n ≡ t64_count kin r_06 p_0t q1
 met r_06 p_0t kin q1 e e-t e-s e-n = rw (e-s, e-t, e, t64_same kin r_06 p_0t) at e-n
 
-returns : tie.Need-returns
+pub returns : goal.returns
 returns c = search met
-
-pub t64-count-spec : {M : Type 1} → statement M
-t64-count-spec = tie.close (tie.spec (λ _ _. tt) (λ _ _. tt) (λ _ _. tt) (λ _ _. tt) returns)

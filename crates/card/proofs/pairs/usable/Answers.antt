@@ -8,14 +8,7 @@ use borrow.Author.Rules.{rules}
 use lib.Ieee.{Float, nan}
 use lib.ListN.{length, get_or}
 use Rattle.card.specs.Usable.{answered, usable}
-use Rattle.card.proofs.pairs.usable.Statement.{statement}
-use Rattle.card.proofs.pairs.usable.Tie as tie
-
-abbrev invariant-loop : tie.invariant-loop
-invariant-loop arm pose qs cs pairs left₀ left = (left ≤ pairs) × (usable arm pose qs cs left ≡ usable arm pose qs cs pairs)
-
-abbrev decreases-loop : tie.decreases-loop
-decreases-loop arm pose qs cs pairs left₀ left = left
+use Rattle.card.proofs.pairs.usable.Goals as goal
 
 module _ (arm pose qs : List Float) (cs : List ℕ) (pairs left : ℕ) (inv : usable arm pose qs cs left ≡ usable arm pose qs cs pairs) where
   ended : left ≤ 0 → true ≡ usable arm pose qs cs pairs
@@ -33,31 +26,14 @@ module _ (arm pose qs : List Float) (cs : List ℕ) (pairs left : ℕ) (inv : us
     off : t ≡ false → false ≡ usable arm pose qs cs pairs
     off b = sym (rw b at one) ∙ inv
 
-loop-holds : tie.Need-loop-init invariant-loop decreases-loop
-loop-holds c = (omega arith, refl)
+pub loop-left-init : goal.loop-left-init
+loop-left-init c = (omega arith, refl)
 
-loop-again : tie.Need-loop-preserved invariant-loop decreases-loop
-loop-again c = (omega arith, search on)
+pub loop-left-preserved : goal.loop-left-preserved
+loop-left-preserved c = (omega arith, search on)
 
-returns : tie.Need-returns invariant-loop decreases-loop
-returns c = search off
+pub returns-else-answered : goal.returns-else-answered
+returns-else-answered c = search off
 
-returns-2 : tie.Need-returns-2 invariant-loop decreases-loop
-returns-2 c = search ended
-
-pub usable-spec : {M : Type 1} → statement M
-usable-spec =
-    tie.close
-    (tie.spec
-    invariant-loop
-    decreases-loop
-    loop-holds
-    (λ c. search rules)
-    (λ c. search rules)
-    (λ c. search rules)
-    (λ c. search rules)
-    (λ c κs. search rules)
-    (λ c. omega arith)
-    loop-again
-    returns
-    returns-2)
+pub returns : goal.returns
+returns c = search ended
