@@ -41,6 +41,22 @@ def clauses(root):
     return found
 
 
+def nested(of, digits):
+    """The fields for a path into clauses that were joined by pairs, first and rest."""
+    d = list(digits)
+    i = 0
+    while i < len(of) - 1:
+        if not d:
+            return None
+        k = int(d.pop(0))
+        if k == 0:
+            return [of[i]] + d
+        if k > 1:
+            return [of[i + k]] + d if i + k < len(of) else None
+        i += 1
+    return [of[i]] + d
+
+
 def tuple_parts(t):
     """The parts of a tuple in brackets at the outside, or None."""
     t = t.strip()
@@ -250,7 +266,7 @@ def convert(path, names, crate, fn, known):
         s = steps.get(norm(w))
         return "." + s if s else m[0]
 
-    body = renamed_steps(body, names)
+    body = renamed_steps(body, names, known.get(crate, {}).get(fn.split(".")[-1], {}).get("requires"))
     # rename local answers, drop κs, mark pub
     names_map = {k: v for k, v in local.items() if k != v}
 
@@ -271,22 +287,36 @@ def convert(path, names, crate, fn, known):
     body = re.sub(r"(?m)^use (\S+)\.Tie as tie$", r"use \1.Goals as goal", body)
     body = re.sub(r"(?m)^use borrow\.Author\.Needs.*\n", "", body)
     segs = segments(body)
+    body = in_source_spelling(body, os.path.join(os.path.dirname(path).split("/proofs")[0], "..", ".."), crate, fn, names)
     # clauses by name
     callee = {}
     for p in names["places"]:
         if p[3] and p[2][1]:
             callee[p[2][1]] = p[3].split("::")
 
-    def clause_field(m):
-        step, kind, k = m[1], m[2], int(m[3])
-        c = callee.get(step)
-        of = known.get(c[0], {}).get(c[-1], {}).get(kind) if c else None
-        return f".{step}.{kind}.{of[k]}" if of and k < len(of) else m[0]
-
-    body = re.sub(r"\.(%s)\.(ensures|requires)\.(\d)(?![\w-])" % W, clause_field, body)
     own = known.get(crate, {}).get(fn.split(".")[-1], {})
-    if own.get("requires"):
-        body = re.sub(r"(?<=\bc)((?:\.before)*)\.requires\.(\d)(?![\w-])", lambda m: f"{m[1]}.requires.{own['requires'][int(m[2])]}" if int(m[2]) < len(own["requires"]) else m[0], body)
+
+    def of_step(step, kind):
+        if step is None:
+            return own.get(kind)
+        c = callee.get(step)
+        return known.get(c[0], {}).get(c[-1], {}).get(kind) if c else None
+
+    def by_clause(m):
+        step, kind, digits = m[1], m[2], m[3].strip(".").split(".")
+        of = of_step(step if step not in ("c", "before") and not step.startswith("at") or step in callee else None, kind) if kind == "ensures" or step in callee else own.get("requires")
+        new = nested(of, digits) if of else None
+        return f"{step}.{kind}." + ".".join(new) if new else m[0]
+
+    body = re.sub(r"(?<![\w'-])(%s)\.(ensures|requires)((?:\.\d)+)(?![\w-])" % W, by_clause, body)
+    # the same through a name that a let gives them
+    for m in list(re.finditer(r"let (%s) = (?:%s\.)*?(%s)\.(ensures|requires) in" % (W, W, W), body)):
+        of = own.get("requires") if m[3] == "requires" and m[2] not in callee else of_step(m[2], m[3])
+        if of:
+            def alias(k, of=of):
+                new = nested(of, k[2].strip(".").split("."))
+                return k[1] + "." + ".".join(new) if new else k[0]
+            body = re.sub(r"(?<![\w.'-])(%s)((?:\.\d)+)(?![\w-])" % re.escape(m[1]), alias, body)
 
     def as_record(goal, rhs):
         of = None
@@ -296,8 +326,14 @@ def convert(path, names, crate, fn, known):
             stem = re.sub(r"-requires(-\d+)?$", "", goal)
             c = callee.get(stem) or callee.get(stem + (re.search(r"-\d+$", goal) or [""])[0])
             of = known.get(c[0], {}).get(c[-1], {}).get("requires") if c else None
+        lead = re.match(r"(?s)(.*\bin\s+)(\(.*\))\s*$", rhs)
+        if lead and tuple_parts(lead[2]):
+            inner = as_record(goal, lead[2])
+            return lead[1] + inner if inner != lead[2] else rhs
         parts = tuple_parts(rhs)
         if of and parts:
+            while len(parts) < len(of) and tuple_parts(parts[-1]):
+                parts = parts[:-1] + tuple_parts(parts[-1])
             if len(parts) < len(of):
                 return rhs
             if len(parts) > len(of):
@@ -404,7 +440,7 @@ def convert(path, names, crate, fn, known):
     return "; ".join(said)
 
 
-def renamed_steps(text, names):
+def renamed_steps(text, names, own=()):
     """The text with each step of a place by its new name: c.before.if2.true is c.before.if-x.true."""
     steps, arms = {}, {}
     of = {p[0]: p for p in names["places"]}
@@ -428,6 +464,8 @@ def renamed_steps(text, names):
         while k < len(f) and f[k] == "before":
             k += 1
         if k < len(f):
+            if f[k] == "requires" and own and k + 1 < len(f) and f[k + 1].isdigit() and int(f[k + 1]) < len(own):
+                f[k + 1] = own[int(f[k + 1])]
             if f[k] == "well-formed":
                 f[k] = "well_formed"
             elif f[k] not in ("args", "requires", "ranges", "new") or norm(f[k]) in steps and f[k] != "args":
@@ -438,6 +476,37 @@ def renamed_steps(text, names):
         return m[1] + "." + ".".join(f)
 
     return "\n".join(l if l.startswith("use ") else chain.sub(put, l) for l in text.split("\n"))
+
+
+def source_words(root, crate, fn):
+    """The names with an underscore in the function's own text: parameters and variables."""
+    last = fn.split(".")[-1]
+    for d, ds, fs in os.walk(os.path.join(root, "crates", crate, "src")):
+        for f in fs:
+            text = open(os.path.join(d, f), encoding="utf-8").read()
+            for m in re.finditer(r"(?m)^[ \t]*(?:pub(?:\([a-z]+\))? )?(?:extern \"C\" )?fn %s\b" % re.escape(last), text):
+                end = re.compile(r"(?m)^[ \t]*\}$").search(text, m.end())
+                yield from set(re.findall(r"\b[a-z]\w*_\w+\b", text[m.start(): end.end() if end else len(text)]))
+
+
+def in_source_spelling(text, root, crate, fn, names):
+    """Fields that are named after the source, by their own spelling; .auto of a call by the parameter's name; .pre and .good by today's."""
+    words = set(source_words(root, crate, fn))
+    for ps in names["params"].values():
+        words |= {p for p in ps if "_" in p}
+    for w in words:
+        k = w.replace("_", "-")
+        text = re.sub(r"(?<=[\w)'])\.%s(?![\w'-])" % re.escape(k), "." + w, text)
+    callee = {p[2][1]: p[3] for p in names["places"] if p[3] and p[2][1]}
+
+    def auto(m):
+        ps = names["params"].get(callee.get(m[1], ""), [])
+        k = m[2].count("1")
+        return f"{m[1]}.auto.{ps[k]}" if k < len(ps) else m[0]
+
+    text = re.sub(r"(?<![\w'-])(%s)\.(?:auto|kept)((?:\.1)*)\.0(?![\w])" % W, auto, text)
+    text = re.sub(r"(?<=[\w)])\.pre(?![\w'-])", ".requires", text)
+    return re.sub(r"(?<=[\w)])\.good(?![\w'-])", ".well_formed", text)
 
 
 def convert_tie(path, text, names, crate, fn, known):
@@ -482,8 +551,11 @@ def convert_tie(path, text, names, crate, fn, known):
         return "." + s if s else m[0]
 
     body = re.sub(r"tie\.(%s)" % W, tie, text[:at])
-    body = renamed_steps(body, names)
+    body = renamed_steps(body, names, known.get(crate, {}).get(fn.split(".")[-1], {}).get("requires"))
     tail = text[at:]
+    root = os.path.join(os.path.dirname(path).split("/proofs")[0], "..", "..")
+    body = in_source_spelling(body, root, crate, fn, names)
+    tail = renamed_steps(in_source_spelling(tail, root, crate, fn, names), names)
     old = re.search(r"pub (%s) :" % W, tail)[1]
     tail = re.sub(r"(?<![\w'-])%s(?![\w'-])" % re.escape(old), fn.split(".")[-1] + "_spec", tail)
     open(path, "w", encoding="utf-8").write(body + tail)
