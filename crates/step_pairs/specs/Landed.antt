@@ -1,5 +1,5 @@
 -- The two lent lists with how many pairs they hold, and what a way does to them.
-use Rattle.std.specs.Prelude.{Bool, true, false, ◌&&◌, cond, List, [], ◌∷◌, ℕ, suc, ◌+◌, ltb, length, set, Float}
+use Rattle.std.specs.Prelude.{Bool, true, false, ◌&&◌, cond, List, [], ◌∷◌, ℕ, ◌+◌, ltb, length, set, Float}
 use Rattle.search_definition.specs.Found.{Entry, Origin, component}
 use Rattle.search_steps.specs.Way.{Way, pause, over}
 

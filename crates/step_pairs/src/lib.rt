@@ -1,5 +1,7 @@
 // The pairs (q1, i) that the machine finds: they go into two lists that the caller lends, angles and
 // components.
+#![tactic(auto)]
+
 ghost use Rattle.std.specs.Prelude.{◌≡◌};
 ghost use Rattle.search_definition.specs.Found.{Origin, component};
 ghost use Rattle.step_pairs.specs.Landed.{lists, put_one, entry_of};

@@ -2,7 +2,6 @@
 use native.Mathlib.Omega.{arith}
 use Rattle.step_pairs.proofs.LandedLaws.{no_room_angles, no_room_components, put_there}
 use Rattle.step_pairs.specs.Landed.{lists}
-use borrow.Author.Rules.{rules}
 use Rattle.step_pairs.proofs.add_pair.Goals as goal
 
 pub returns-then-at-qs : goal.returns-then-at-qs
