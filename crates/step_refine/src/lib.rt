@@ -1,5 +1,7 @@
 // refine_bracket in steps: what it holds between two evaluations, by value, and what it comes to with the
 // value at the angle that it asks. Nothing here knows the error.
+#![tactic(auto)]
+
 ghost use Rattle.std.specs.Prelude.{◌≡◌, cond};
 ghost use Rattle.std.specs.Bool.{beq};
 ghost use Rattle.float.specs.Num.{◌⊗◌};

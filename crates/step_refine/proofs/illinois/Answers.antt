@@ -1,5 +1,4 @@
 -- `step_refine::illinois` meets its contract. Assumes nothing.
-use borrow.Author.Rules.{rules}
 use Rattle.step_refine.proofs.illinois.Goals as goal
 
 pub returns-then-again : goal.returns-then-again

@@ -1,6 +1,5 @@
 -- `step_refine::way` meets its contract. Assumes nothing.
 use Rattle.step_refine.proofs.RefineLaws.{no_turn, goes_on, no_guess}
-use borrow.Author.Rules.{rules}
 use Rattle.step_refine.specs.State.{bracket_of}
 use Rattle.step_refine.proofs.way.Goals as goal
 
