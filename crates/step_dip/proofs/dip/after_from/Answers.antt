@@ -1,8 +1,7 @@
 -- `step_dip::dip::after_from` meets its contract. Assumes nothing.
 use Rattle.step_pairs.specs.Landed.{lists}
-use Rattle.search_definition.specs.Found.{only, before, after}
+use Rattle.search_definition.specs.Found.{after}
 use Rattle.step_dip.proofs.DipLaws.{after_pauses, after_over}
-use borrow.Author.Rules.{rules}
 use Rattle.step_dip.proofs.dip.after_from.Goals as goal
 
 pub returns-in-Pause : goal.returns-in-Pause

@@ -1,9 +1,8 @@
 -- `step_dip::dip::before_from` meets its contract. Assumes nothing.
 use Rattle.step_pairs.specs.Landed.{lists}
-use Rattle.search_definition.specs.Found.{only, before, after}
+use Rattle.search_definition.specs.Found.{before, after}
 use Rattle.step_dip.proofs.DipLaws.{before_pauses, before_over}
 use Rattle.step_dip.specs.State.{point_of}
-use borrow.Author.Rules.{rules}
 use Rattle.step_dip.proofs.dip.before_from.Goals as goal
 
 pub returns-in-Pause : goal.returns-in-Pause

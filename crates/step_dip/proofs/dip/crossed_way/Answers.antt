@@ -1,10 +1,9 @@
 -- `step_dip::dip::crossed_way` meets its contract. Assumes nothing.
 use Rattle.step_pairs.specs.Landed.{lists}
-use Rattle.search_definition.specs.Found.{only, before, after}
+use Rattle.search_definition.specs.Found.{only, before}
 use Rattle.step_dip.proofs.DipLaws.{crosses_there, touches, misses}
 use Rattle.search_dip.specs.Valley.{valley}
 use Rattle.step_dip.specs.State.{point_of}
-use borrow.Author.Rules.{rules}
 use Rattle.step_dip.proofs.dip.crossed_way.Goals as goal
 
 pub returns-then-g : goal.returns-then-g

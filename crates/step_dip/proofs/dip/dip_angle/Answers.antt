@@ -3,7 +3,6 @@ use Rattle.step_dip.proofs.DipLaws.{angle_from}
 use Rattle.step_dip.specs.State.{point_of}
 use Rattle.search_steps.specs.DipSteps.{dip_angle}
 use Rattle.search_steps.specs.RefineSteps.{refine_angle}
-use borrow.Author.Rules.{rules}
 use Rattle.step_dip.proofs.dip.dip_angle.Goals as goal
 
 pub returns-in-Opening : goal.returns-in-Opening

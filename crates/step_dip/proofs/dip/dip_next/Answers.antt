@@ -3,7 +3,6 @@ use Rattle.search_definition.specs.Found as Found
 use Rattle.step_pairs.specs.Landed.{lists}
 use Rattle.step_dip.proofs.DipLaws.{opens, opens_right, sinks, refines_before, refines_after}
 use Rattle.step_dip.specs.State.{point_of}
-use borrow.Author.Rules.{rules}
 use Rattle.step_dip.proofs.dip.dip_next.Goals as goal
 
 pub returns-in-Opening : goal.returns-in-Opening

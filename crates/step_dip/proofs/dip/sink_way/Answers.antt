@@ -3,7 +3,6 @@ use Rattle.step_pairs.specs.Landed.{lists}
 use Rattle.step_dip.proofs.DipLaws.{no_turn, turns}
 use Rattle.search_dip.specs.Valley.{valley}
 use Rattle.step_dip.specs.State.{point_of}
-use borrow.Author.Rules.{rules}
 use Rattle.step_dip.proofs.dip.sink_way.Goals as goal
 
 pub returns-then-left-eq0 : goal.returns-then-left-eq0

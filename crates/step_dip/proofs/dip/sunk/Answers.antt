@@ -6,7 +6,6 @@ use Rattle.step_pairs.specs.Landed.{lists}
 use Rattle.step_dip.proofs.DipLaws.{sinks_below, sinks_on}
 use Rattle.search_dip.specs.Valley.{valley}
 use Rattle.step_dip.specs.State.{point_of}
-use borrow.Author.Rules.{rules}
 use Rattle.step_dip.proofs.dip.sunk.Goals as goal
 
 pub returns-then-w : goal.returns-then-w
