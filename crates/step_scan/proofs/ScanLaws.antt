@@ -2,7 +2,7 @@
 use mathlib.Core.Path.{◌≡◌, refl, sym, ◌∙◌, ap, ap₂}
 use mathlib.Core.Logic.{◌≢◌}
 use mathlib.Core.Bool.{Bool, true, false}
-use mathlib.Core.List.{List, [], ◌∷◌}
+use mathlib.Core.List.{[]}
 use Prim.Native.Nat.{ℕ, zero, suc, ◌+◌, ◌-◌, ◌<◌, ◌≤◌}
 use native.Mathlib.Omega.{arith}
 use native.Mathlib.Numerals.{add-one}
@@ -14,7 +14,7 @@ use Rattle.search_steps.specs.Way.{Way, over, adding, chain}
 use Rattle.search_steps.specs.RefineSteps.{refine_start, refine_next}
 use Rattle.search_steps.specs.DipSteps as DipSteps
 use Rattle.search_steps.specs.DipSteps.{opening, dip_angle, dip_way, dip_next}
-use Rattle.search_steps.specs.ScanSteps.{Scan, at_crossing, at_inner, at_last, at_first, of_inner, of_last, of_first, if_first, first_way, if_last, last_way, if_inner, inner_way, if_crosses_way, items_way, scan_angle, scan_next, last_pair, scan_way}
+use Rattle.search_steps.specs.ScanSteps.{Scan, at_crossing, at_inner, at_last, at_first, of_inner, of_last, of_first, if_first, first_way, if_last, last_way, if_inner, inner_way, if_crosses_way, items_way, scan_angle, scan_next, scan_way}
 use Rattle.step_refine.specs.State.{refining_of, way_of}
 use Rattle.step_refine.specs.declared.Refining.{Refining}
 use Rattle.step_refine.specs.declared.RefineWay.{RefineWay}

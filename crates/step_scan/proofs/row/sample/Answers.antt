@@ -2,7 +2,6 @@
 use mathlib.Core.Path.{ap₂}
 use lib.Ieee.{Float}
 use Rattle.search_definition.specs.Dip.{Point}
-use borrow.Author.Rules.{rules}
 use Rattle.step_scan.proofs.row.sample.Goals as goal
 
 pub returns : goal.returns

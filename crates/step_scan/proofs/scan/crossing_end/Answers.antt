@@ -1,7 +1,6 @@
 -- `step_scan::scan::crossing_end` meets its contract. Assumes nothing.
 use Rattle.step_pairs.specs.Landed.{lists}
 use Rattle.step_scan.proofs.ScanLaws.{crossing_pauses, crossing_over}
-use borrow.Author.Rules.{rules}
 use Rattle.step_scan.proofs.scan.crossing_end.Goals as goal
 
 pub returns-in-Pause : goal.returns-in-Pause

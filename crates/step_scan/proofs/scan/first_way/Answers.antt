@@ -3,7 +3,6 @@ use Rattle.search_definition.specs.Scan.{alike, falls_back}
 use Rattle.step_pairs.specs.Landed.{lists}
 use Rattle.search_pairs.specs.State.{row}
 use Rattle.step_scan.proofs.ScanLaws.{first_dips, first_none}
-use borrow.Author.Rules.{rules}
 use Rattle.step_scan.proofs.scan.first_way.Goals as goal
 
 pub returns-then-falls_back : goal.returns-then-falls_back

@@ -4,7 +4,6 @@ use Rattle.step_pairs.specs.Landed.{lists}
 use Rattle.step_pairs.proofs.LandedLaws.{renamed, renamed_none}
 use Rattle.step_dip.specs.State.{dip_of, now_of}
 use Rattle.search_steps.specs.ScanSteps.{at_inner}
-use borrow.Author.Rules.{rules}
 use Rattle.step_scan.proofs.scan.inner_end.Goals as goal
 
 pub returns-in-Pause : goal.returns-in-Pause

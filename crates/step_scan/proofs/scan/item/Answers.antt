@@ -4,7 +4,6 @@ use Rattle.search_pairs.specs.State.{row}
 use Rattle.step_scan.proofs.ScanLaws.{item_crosses, item_ends, item_dips, item_none}
 use Rattle.search_definition.specs.Found.{crossing}
 use Rattle.search_definition.specs.Scan.{alike, crosses, dips}
-use borrow.Author.Rules.{rules}
 use Rattle.step_scan.proofs.scan.item.Goals as goal
 
 pub returns-then-crosses : goal.returns-then-crosses

@@ -1,11 +1,7 @@
 -- `step_scan::scan::items_way` meets its contract. Assumes nothing.
-use mathlib.Core.Path.{◌≡◌, refl, sym, ◌∙◌}
-use Prim.Native.Nat.{ℕ, ◌+◌, ◌≤◌, ◌<◌}
+use mathlib.Core.Path.{◌≡◌, refl, ◌∙◌}
 use native.Mathlib.Omega.{arith}
-use lib.ListN.{length}
-use Rattle.search_definition.specs.Found.{Place, Origin, component}
-use Rattle.search_steps.specs.ScanSteps.{items_way}
-use Rattle.step_pairs.specs.Landed.{lists, landed}
+use Rattle.step_pairs.specs.Landed.{lists}
 use Rattle.search_pairs.specs.State.{row}
 use Rattle.step_scan.specs.State.{now_of}
 use Rattle.step_scan.proofs.ScanLaws.{row_pauses, row_goes, row_ends}

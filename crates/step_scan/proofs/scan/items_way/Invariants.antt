@@ -1,14 +1,11 @@
 -- `step_scan::scan::items_way` meets its contract. Assumes nothing.
-use mathlib.Core.Path.{◌≡◌, refl, sym, ◌∙◌}
-use Prim.Native.Nat.{ℕ, ◌+◌, ◌≤◌, ◌<◌}
-use native.Mathlib.Omega.{arith}
+use mathlib.Core.Path.{◌≡◌}
+use Prim.Native.Nat.{◌+◌}
 use lib.ListN.{length}
 use Rattle.search_definition.specs.Found.{Place, Origin, component}
 use Rattle.search_steps.specs.ScanSteps.{items_way}
 use Rattle.step_pairs.specs.Landed.{lists, landed}
 use Rattle.search_pairs.specs.State.{row}
-use Rattle.step_scan.specs.State.{now_of}
-use Rattle.step_scan.proofs.ScanLaws.{row_pauses, row_goes, row_ends}
 use Rattle.step_scan.proofs.scan.items_way.Given as goal
 
 abbrev pub invariant-loop-left : goal.invariant-loop-left

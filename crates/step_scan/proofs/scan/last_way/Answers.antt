@@ -3,7 +3,6 @@ use Rattle.search_definition.specs.Scan.{alike, falls_to}
 use Rattle.step_pairs.specs.Landed.{lists}
 use Rattle.search_pairs.specs.State.{row}
 use Rattle.step_scan.proofs.ScanLaws.{last_dips, last_none}
-use borrow.Author.Rules.{rules}
 use Rattle.step_scan.proofs.scan.last_way.Goals as goal
 
 pub returns-then-falls_to : goal.returns-then-falls_to

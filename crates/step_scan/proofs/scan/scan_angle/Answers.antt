@@ -4,7 +4,6 @@ use Rattle.search_pairs.specs.State.{row}
 use Rattle.step_scan.proofs.ScanLaws.{angle_from, inner_asks, last_asks, first_asks, small_at}
 use Rattle.search_steps.specs.ScanSteps.{scan_angle, of_inner, of_last, of_first}
 use Rattle.search_steps.specs.RefineSteps.{refine_angle}
-use borrow.Author.Rules.{rules}
 use Rattle.step_scan.proofs.scan.scan_angle.Goals as goal
 
 pub overflow_add-l : goal.overflow_add-l

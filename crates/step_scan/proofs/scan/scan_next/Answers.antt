@@ -1,12 +1,10 @@
 -- `step_scan::scan::scan_next` meets its contract. Assumes nothing.
-use mathlib.Core.Path.{◌≡◌, sym, ◌∙◌, ap, ap₂}
 use native.Mathlib.Omega.{arith}
 use Rattle.step_pairs.specs.Landed.{lists}
 use Rattle.search_pairs.specs.State.{row}
 use Rattle.step_scan.proofs.ScanLaws.{crossing_steps, inner_steps, last_steps, first_steps, small_at}
 use Rattle.search_steps.specs.ScanSteps.{of_inner, of_last, of_first}
 use Rattle.search_definition.specs.Found.{crossing, inner, last, first}
-use borrow.Author.Rules.{rules}
 use Rattle.step_scan.proofs.scan.scan_next.Goals as goal
 
 pub overflow_add-l : goal.overflow_add-l

@@ -3,7 +3,6 @@ use native.Mathlib.Omega.{arith}
 use Rattle.step_pairs.specs.Landed.{lists}
 use Rattle.search_pairs.specs.State.{row}
 use Rattle.step_scan.proofs.ScanLaws.{short_row, long_row}
-use borrow.Author.Rules.{rules}
 use Rattle.step_scan.proofs.scan.scan_way.Goals as goal
 
 pub returns-then-m-lt2 : goal.returns-then-m-lt2

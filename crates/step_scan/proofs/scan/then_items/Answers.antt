@@ -5,7 +5,6 @@ use Rattle.search_pairs.specs.State.{row}
 use Rattle.step_pairs.proofs.LandedLaws.{goes_on, stays_same}
 use Rattle.step_scan.specs.State.{now_of}
 use Rattle.search_steps.specs.ScanSteps.{items_way}
-use borrow.Author.Rules.{rules}
 use Rattle.step_scan.proofs.scan.then_items.Goals as goal
 
 pub returns-then-paused : goal.returns-then-paused
