@@ -3,7 +3,7 @@ use mathlib.Core.Path.{◌≡◌, refl, sym, ◌∙◌, ap, ap₂}
 use mathlib.Core.Logic.{◌≢◌}
 use mathlib.Core.Bool.{Bool, true, false}
 use mathlib.Core.List.{List, [], ◌∷◌, ◌++◌}
-use Prim.Native.Nat.{ℕ, zero, suc, ◌+◌, ◌-◌, ◌≤◌, ◌<◌}
+use Prim.Native.Nat.{ℕ, suc, ◌+◌, ◌-◌, ◌≤◌, ◌<◌}
 use native.Mathlib.Omega.{arith}
 use native.Mathlib.Numerals.{add-one}
 use lib.ListN.{length, take}
@@ -13,12 +13,12 @@ use Rattle.float.specs.Number.{is_finite}
 use Rattle.search_definition.specs.Found.{Place, Origin}
 use Rattle.search_definition.specs.Dip.{Point}
 use Rattle.search_definition.specs.Search.{Gap, mid, if_inside, keep, reversed_if, share, row_at}
-use Rattle.search_steps.specs.Way.{Way, over, chain}
+use Rattle.search_steps.specs.Way.{over}
 use Rattle.search_steps.specs.Kept.{ScanKept, EdgeKept}
 use Rattle.search_steps.specs.ScanSteps as ScanSteps
 use Rattle.search_steps.specs.ScanSteps.{scan_angle, scan_next, last_pair, scan_way}
 use Rattle.search_steps.specs.EdgeSteps.{Edge, halving, taking, in_row, sub_angle, row_way, take_way, halve_way, edge_angle, edge_next, edge_way}
-use Rattle.step_pairs.specs.Landed.{Lists, putting, asking, none, Now, Landed, landing, landed, followed}
+use Rattle.step_pairs.specs.Landed.{Lists, putting, asking, Landed, landing, landed, followed}
 use Rattle.step_pairs.proofs.LandedLaws.{part_ends}
 use Rattle.search_pairs.specs.State.{point, row, firsts}
 use Rattle.search_edge.proofs.EdgeSteps.{firsts_length}

@@ -5,7 +5,7 @@ use mathlib.Core.List.{List, [], ◌∷◌, ◌++◌}
 use Prim.Native.Nat.{ℕ, zero, suc, ◌+◌, ◌-◌, ◌≤◌, ◌<◌}
 use native.Mathlib.Omega.{arith}
 use native.Mathlib.Numerals.{add-one}
-use lib.ListN.{length, get_or, set, take, length-append}
+use lib.ListN.{length, set, take, length-append}
 use lib.Seq.{length-take-le}
 use lib.Ieee.{Float, lt}
 use Rattle.search_definition.specs.Dip.{Point}

@@ -2,7 +2,6 @@
 use native.Mathlib.Omega.{arith}
 use Rattle.step_dip.specs.State.{point_of}
 use Rattle.step_edge.proofs.EdgeLaws.{angle_from, halving_asks, taking_asks, row_fits}
-use borrow.Author.Rules.{rules}
 use Rattle.step_edge.proofs.edge.edge_angle.Goals as goal
 
 pub row_angle-requires : goal.row_angle-requires

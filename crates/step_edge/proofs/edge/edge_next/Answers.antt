@@ -3,7 +3,6 @@ use native.Mathlib.Omega.{arith}
 use Rattle.step_pairs.specs.Landed.{lists}
 use Rattle.step_dip.specs.State.{point_of}
 use Rattle.step_edge.proofs.EdgeLaws.{next_from, halving_steps, taking_fits, row_fits}
-use borrow.Author.Rules.{rules}
 use Rattle.step_edge.proofs.edge.edge_next.Goals as goal
 
 pub take_next-requires : goal.take_next-requires

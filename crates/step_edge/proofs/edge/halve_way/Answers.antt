@@ -3,7 +3,6 @@ use Rattle.search_pairs.specs.State.{firsts}
 use Rattle.step_pairs.specs.Landed.{lists}
 use Rattle.step_edge.specs.State.{gap_of}
 use Rattle.step_edge.proofs.EdgeLaws.{halves_none, halves_on}
-use borrow.Author.Rules.{rules}
 use Rattle.step_edge.proofs.edge.halve_way.Goals as goal
 
 pub returns-then-k-eq0 : goal.returns-then-k-eq0

@@ -3,7 +3,6 @@ use native.Mathlib.Omega.{arith}
 use Rattle.step_scan.specs.State.{scan_of}
 use Rattle.step_edge.proofs.RowLaws.{part}
 use Rattle.step_edge.proofs.EdgeLaws.{row_asks, fits_small}
-use borrow.Author.Rules.{rules}
 use Rattle.step_edge.proofs.edge.row_angle.Goals as goal
 
 pub slice_bounds-scan_angle-end : goal.slice_bounds-scan_angle-end

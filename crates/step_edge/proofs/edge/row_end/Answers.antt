@@ -5,7 +5,6 @@ use Rattle.search_pairs.specs.State.{row, firsts}
 use Rattle.search_steps.specs.EdgeSteps.{in_row}
 use Rattle.step_pairs.proofs.LandedLaws.{renamed, renamed_none}
 use Rattle.step_scan.specs.State.{scan_of, now_of}
-use borrow.Author.Rules.{rules}
 use Rattle.step_edge.proofs.edge.row_end.Goals as goal
 
 pub returns-in-Pause : goal.returns-in-Pause

@@ -4,7 +4,6 @@ use Rattle.step_pairs.specs.Landed.{lists}
 use Rattle.step_scan.specs.State.{scan_of}
 use Rattle.step_edge.proofs.RowLaws.{part}
 use Rattle.step_edge.proofs.EdgeLaws.{row_steps, fits_small}
-use borrow.Author.Rules.{rules}
 use Rattle.step_edge.proofs.edge.row_next.Goals as goal
 
 pub slice_bounds-scan_next-end : goal.slice_bounds-scan_next-end

@@ -2,7 +2,6 @@
 use Rattle.step_pairs.specs.Landed.{lists}
 use Rattle.step_edge.proofs.RowLaws.{part}
 use Rattle.step_edge.proofs.EdgeLaws.{row_scans}
-use borrow.Author.Rules.{rules}
 use Rattle.step_edge.proofs.edge.row_way.Goals as goal
 
 pub slice_bounds-scan_way-end : goal.slice_bounds-scan_way-end

@@ -3,7 +3,6 @@ use native.Mathlib.Omega.{arith}
 use Rattle.step_pairs.specs.Landed.{lists}
 use Rattle.step_dip.specs.State.{point_of}
 use Rattle.step_edge.proofs.EdgeLaws.{sample_steps, one_more}
-use borrow.Author.Rules.{rules}
 use Rattle.step_edge.proofs.edge.take_next.Goals as goal
 
 pub overflow_sub-n : goal.overflow_sub-n

@@ -4,7 +4,6 @@ use Rattle.search_pairs.specs.State.{row, firsts}
 use Rattle.step_dip.specs.State.{point_of}
 use Rattle.step_edge.specs.State.{behind}
 use Rattle.step_edge.proofs.EdgeLaws.{takes_none, takes_on}
-use borrow.Author.Rules.{rules}
 use Rattle.step_edge.proofs.edge.take_way.Goals as goal
 
 pub returns-then-c-eq0 : goal.returns-then-c-eq0

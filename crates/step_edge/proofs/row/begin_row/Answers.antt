@@ -3,7 +3,6 @@ use mathlib.Core.Path.{ap₂}
 use lib.Ieee.{nan}
 use lib.Seq.{get_or-set_same}
 use Rattle.search_pairs.specs.State.{point}
-use borrow.Author.Rules.{rules}
 use Rattle.step_edge.proofs.row.begin_row.Goals as goal
 
 pub returns : goal.returns

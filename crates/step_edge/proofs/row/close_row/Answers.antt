@@ -1,6 +1,5 @@
 -- `step_edge::row::close_row` meets its contract. Assumes nothing.
 use Rattle.step_edge.proofs.RowLaws.{closed}
-use borrow.Author.Rules.{rules}
 use Rattle.step_edge.proofs.row.close_row.Goals as goal
 
 pub returns : goal.returns

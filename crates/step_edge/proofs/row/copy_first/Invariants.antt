@@ -1,12 +1,8 @@
 -- `step_edge::row::copy_first` meets its contract. Assumes nothing.
-use mathlib.Core.Path.{◌≡◌, refl}
+use mathlib.Core.Path.{◌≡◌}
 use Prim.Native.Nat.{ℕ, ◌-◌, ◌≤◌, ◌<◌}
-use native.Mathlib.Omega.{arith}
-use native.Mathlib.Nat.{not-suc-le-zero}
-use borrow.Author.Rules.{rules}
 use lib.Ieee.{nan}
-use lib.ListN.{length, get_or, length-set}
-use Rattle.search_edge.proofs.EdgeSteps.{set_next}
+use lib.ListN.{length, get_or}
 use Rattle.step_edge.proofs.row.copy_first.Given as goal
 
 abbrev pub invariant-loop-k : goal.invariant-loop-k

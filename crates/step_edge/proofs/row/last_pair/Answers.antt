@@ -1,7 +1,6 @@
 -- `step_edge::row::last_pair` meets its contract. Assumes nothing.
 use native.Mathlib.Omega.{arith}
 use Rattle.step_edge.proofs.RowLaws.{last_short, last_long}
-use borrow.Author.Rules.{rules}
 use Rattle.step_edge.proofs.row.last_pair.Goals as goal
 
 pub returns-then-m-lt2 : goal.returns-then-m-lt2

@@ -2,7 +2,6 @@
 use mathlib.Core.Path.{ap₂}
 use Rattle.search_pairs.specs.State.{point, row}
 use Rattle.step_edge.proofs.RowLaws.{row_reversed, row_straight}
-use borrow.Author.Rules.{rules}
 use Rattle.step_edge.proofs.row.order_row.Goals as goal
 
 pub returns-then-x-lo : goal.returns-then-x-lo

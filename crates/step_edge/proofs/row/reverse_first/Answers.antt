@@ -1,6 +1,5 @@
 -- `step_edge::row::reverse_first` meets its contract. Assumes nothing.
 use mathlib.Core.Path.{◌∙◌}
-use borrow.Author.Rules.{rules}
 use Rattle.step_edge.proofs.row.reverse_first.Goals as goal
 
 pub returns : goal.returns
