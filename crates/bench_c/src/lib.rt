@@ -1,5 +1,6 @@
 // What the benchmark links (tools/measure/bench_functions.sh): calls_c for a C or Rust caller.
 #![tactic(auto)]
+
 ghost use Rattle.std.specs.Prelude.{◌≡◌};
 ghost use Rattle.answers.specs.Written.{Wrote};
 ghost use Rattle.forward.specs.Forward.{forward_pose};

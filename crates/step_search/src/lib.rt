@@ -1,5 +1,7 @@
 // The whole search in steps of one evaluation each: the grid's samples, then the four components. A state is
 // plain data by value; the samples, an edge's row and the pairs lie in lent lists.
+#![tactic(auto)]
+
 ghost use Rattle.std.specs.Prelude.{◌≡◌, List, ℕ, ◌<◌, ◌≤◌, ◌+◌, length, Float};
 ghost use Rattle.search_error.specs.Fixed.{error_at};
 ghost use Rattle.search_steps.specs.Steps as Steps;
