@@ -1,7 +1,7 @@
 #!/usr/bin/env bash
 # Prints the command that starts the solver program under valgrind: the object file that rt compiled
-# (tools/build.sh ik), linked with the machine's own C library to target/native/ik, for valgrind can't run the kit's. The
-# environment variable IK_PROGRAM names another program instead. Needs cc.
+# (tools/build.sh ik), linked with the machine's own C library to target/native/ik, for valgrind can't run the
+# toolchain's. The environment variable IK_PROGRAM names another program instead. Needs rt and cc.
 set -eu
 cd "$(dirname "$0")/../.."
 if [ -n "${IK_PROGRAM:-}" ]; then
@@ -10,5 +10,6 @@ if [ -n "${IK_PROGRAM:-}" ]; then
 fi
 [ -f target/obj/ik.o ] || { echo "target/obj/ik.o is missing: tools/build.sh ik" >&2; exit 1; }
 mkdir -p target/native
-cc -o target/native/ik target/obj/ik.o -lm
+c=$(dirname "$(rt doc)")/c
+cc -o target/native/ik target/obj/ik.o "$c/libos_c.a" "$c/liblibc_c.a" -lm
 echo target/native/ik
