@@ -4,6 +4,7 @@ pub mod Nested
 pub mod Poly
 pub mod Series
 pub mod Coefs
+pub mod ByIndex
 pub mod Sums
 pub mod Shift
 pub mod Turn

@@ -14,7 +14,7 @@ use Rattle.sine_accuracy.proofs.Horner.{near_to, near_scale, near_trans, z_small
 use Rattle.sine_accuracy.proofs.Nested.{weight, scale, exact, signed, nested_got}
 use Rattle.sine_accuracy.proofs.Poly.{Diff, ◌⊞◌, ◌⊠◌, ev, spread, ev_spread, both, nil-⊞}
 use Rattle.sine_accuracy.proofs.Series.{share, coefficient, either, signed_by, series, sin_poly, cos_poly}
-use Rattle.sine_accuracy.proofs.Coefs.{sin_coef, cos_coef}
+use Rattle.sine_accuracy.proofs.ByIndex.{sin_coef, cos_coef}
 
 -- ---- the exact nested sum is the polynomial
 sign_scale : (j c a w E : ℕ) → c ≡ a * w * E → signed_by j c ≡ record { p = (signed_by j a).p * w * E; n = (signed_by j a).n * w * E }
