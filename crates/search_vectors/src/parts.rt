@@ -1,0 +1,183 @@
+// What added each pair. The search's parts are run apart on the grid's samples: each row of samples must
+// add just the pairs that are stored as its own, each place in a row the pair that is stored as its own,
+// and each component must have as many crossings as its stored pairs say.
+ghost use Rattle.std.specs.Prelude.{◌<◌, ◌≤◌};
+
+use crate::{place, record, rows};
+use float::is_finite;
+use search::SearchCounts;
+use search_error::Fixed;
+
+fn check_rows(
+    book: &[u8; 1830400],
+    m: usize,
+    qs: &[f64; 17600],
+    cs: &[u8; 17600],
+    rows: &[u64; 17600],
+    tally: &mut [u64; 64],
+)
+    requires { m ≤ 17600 }
+{
+    for j in 0..m {
+        let is_row = record::word(book, j, record::ROW) == rows[j];
+        let ok = is_row && record::is_pair(book, j, qs[j], cs[j]);
+        cases::count(tally, record::CHECKS, record::ROWS, ok);
+    }
+}
+
+// The crossings that are stored for component i of the grid.
+fn stored_crossings(book: &[u8; 1830400], m: usize, i: u64) -> u64
+    requires { m ≤ 17600 }
+{
+    let mut count = 0u64;
+    for j in 0..m {
+        let is_i = record::word(book, j, record::COMPONENT) == i;
+        let is_grid = record::word(book, j, record::ROW) == 0;
+        let is_crossing = record::word(book, j, record::PLACE) == 0;
+        if is_i && is_grid && is_crossing {
+            count = count.wrapping_add(1);
+        }
+    }
+    count
+}
+
+// Both are finite, one is negative and one is not.
+fn crosses(y0: f64, y1: f64) -> bool {
+    is_finite(y0) && is_finite(y1) && !((y0 < 0.0) == (y1 < 0.0))
+}
+
+fn crossings(ys: &[f64; 401], n: usize) -> u64
+    requires { n ≤ 400 }
+{
+    let mut count = 0u64;
+    for k in 0..n {
+        if crosses(ys[k], ys[k + 1]) {
+            count = count.wrapping_add(1);
+        }
+    }
+    count
+}
+
+// The pairs of component i by their places, and its crossings.
+fn check_places(
+    fixed: Fixed,
+    i: u8,
+    n: usize,
+    xs: &[f64; 401],
+    ys: &[f64; 401],
+    book: &[u8; 1830400],
+    m: usize,
+    tally: &mut [u64; 64],
+)
+    requires { (i < 4) × (n ≤ 400) × (m ≤ 17600) }
+{
+    let ok = crossings(ys, n) == stored_crossings(book, m, i as u64);
+    cases::count(tally, record::CHECKS, record::CROSSINGS, ok);
+    for j in 0..m {
+        if record::word(book, j, record::COMPONENT) == i as u64 {
+            let is = place::right(fixed, i, n, xs, ys, book, j);
+            cases::count(tally, record::CHECKS, record::PLACES, is);
+        }
+    }
+}
+
+fn check_components(
+    fixed: Fixed,
+    n: usize,
+    xs: &[f64; 401],
+    y0: &[f64; 401],
+    y1: &[f64; 401],
+    y2: &[f64; 401],
+    y3: &[f64; 401],
+    book: &[u8; 1830400],
+    m: usize,
+    tally: &mut [u64; 64],
+)
+    requires { (n ≤ 400) × (m ≤ 17600) }
+{
+    check_places(fixed, 0, n, xs, y0, book, m, tally);
+    check_places(fixed, 1, n, xs, y1, book, m, tally);
+    check_places(fixed, 2, n, xs, y2, book, m, tally);
+    check_places(fixed, 3, n, xs, y3, book, m, tally);
+}
+
+// The rows' pairs, one after the other.
+fn list(
+    fixed: Fixed,
+    n: usize,
+    xs: &[f64; 401],
+    y0: &[f64; 401],
+    y1: &[f64; 401],
+    y2: &[f64; 401],
+    y3: &[f64; 401],
+    qs: &mut [f64; 17600],
+    cs: &mut [u8; 17600],
+    rows: &mut [u64; 17600],
+    f: SearchCounts,
+) -> SearchCounts
+    requires { n ≤ 400 }
+{
+    let f0 = rows::component(fixed, 0, n, xs, y0, qs, cs, rows, f);
+    let f1 = rows::component(fixed, 1, n, xs, y1, qs, cs, rows, f0);
+    let f2 = rows::component(fixed, 2, n, xs, y2, qs, cs, rows, f1);
+    rows::component(fixed, 3, n, xs, y3, qs, cs, rows, f2)
+}
+
+// They are the whole list, and their evaluations and the grid's are all.
+fn check_list(
+    head: &[u8; 432],
+    fixed: Fixed,
+    n: usize,
+    xs: &[f64; 401],
+    y0: &[f64; 401],
+    y1: &[f64; 401],
+    y2: &[f64; 401],
+    y3: &[f64; 401],
+    book: &[u8; 1830400],
+    m: usize,
+    evals: u64,
+    tally: &mut [u64; 64],
+)
+    requires { (n ≤ 400) × (m ≤ 17600) }
+{
+    let mut qs = [0.0; 17600];
+    let mut cs = [0u8; 17600];
+    let mut rows = [0u64; 17600];
+    let none = SearchCounts { pairs: 0, evals };
+    let f = list(
+        fixed, n, xs, y0, y1, y2, y3, &mut qs, &mut cs, &mut rows, none,
+    );
+    let ok = record::counts(head, f.pairs as u64, f.evals);
+    cases::count(tally, record::CHECKS, record::PARTS, ok);
+    check_rows(book, m, &qs, &cs, &rows, tally);
+}
+
+fn fixed(head: &[u8; 432]) -> Fixed {
+    Fixed::new(
+        record::arm(head),
+        record::rotation(head),
+        record::place(head),
+    )
+}
+
+pub(crate) fn check(
+    head: &[u8; 432],
+    book: &[u8; 1830400],
+    n: usize,
+    m: usize,
+    tally: &mut [u64; 64],
+)
+    requires { (n ≤ 400) × (m ≤ 17600) }
+{
+    let from = fixed(head);
+    let mut xs = [0.0; 401];
+    let mut y0 = [0.0; 401];
+    let mut y1 = [0.0; 401];
+    let mut y2 = [0.0; 401];
+    let mut y3 = [0.0; 401];
+    let evals = search::sample_grid(from, n, &mut xs, &mut y0, &mut y1, &mut y2, &mut y3);
+    check_list(
+        head, from, n, &xs, &y0, &y1, &y2, &y3, book, m, evals, tally,
+    );
+    check_components(from, n, &xs, &y0, &y1, &y2, &y3, book, m, tally);
+}
