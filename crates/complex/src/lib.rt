@@ -5,82 +5,116 @@
 ghost use Rattle.std.specs.Prelude.{◌≡◌};
 ghost use Rattle.complex.specs.Complex.{◌+ᶜ◌, ◌-ᶜ◌, negᶜ, ◌*ᶜ◌, ◌/ᶜ◌, scaleᶜ, overᶜ, real_overᶜ, modulus, absᶜ, polar, sqrtᶜ, cbrtᶜ};
 
-#[derive(Clone, Copy)]
+use std::ops::{Add, Div, Mul, Neg, Sub};
+
+#[derive(Clone, Copy, Default)]
 pub struct Complex {
     pub re: f64,
     pub im: f64,
 }
 
-pub fn add(z: Complex, w: Complex) -> Complex
-    ensures { result ≡ z +ᶜ w }
-{
-    Complex {
-        re: z.re + w.re,
-        im: z.im + w.im,
+impl Add for Complex {
+    type Output = Complex;
+
+    ghost add_gives = { λ z w sum. sum ≡ z +ᶜ w };
+
+    fn add(self, w: Complex) -> Complex {
+        Complex {
+            re: self.re + w.re,
+            im: self.im + w.im,
+        }
     }
 }
 
-pub fn sub(z: Complex, w: Complex) -> Complex
-    ensures { result ≡ z -ᶜ w }
-{
-    Complex {
-        re: z.re - w.re,
-        im: z.im - w.im,
+impl Sub for Complex {
+    type Output = Complex;
+
+    ghost sub_gives = { λ z w difference. difference ≡ z -ᶜ w };
+
+    fn sub(self, w: Complex) -> Complex {
+        Complex {
+            re: self.re - w.re,
+            im: self.im - w.im,
+        }
     }
 }
 
-pub fn neg(z: Complex) -> Complex
-    ensures { result ≡ negᶜ z }
-{
-    Complex {
-        re: -z.re,
-        im: -z.im,
+impl Neg for Complex {
+    type Output = Complex;
+
+    ghost neg_gives = { λ z minus. minus ≡ negᶜ z };
+
+    fn neg(self) -> Complex {
+        Complex {
+            re: -self.re,
+            im: -self.im,
+        }
     }
 }
 
-pub fn mul(z: Complex, w: Complex) -> Complex
-    ensures { result ≡ z *ᶜ w }
-{
-    Complex {
-        re: z.re * w.re - z.im * w.im,
-        im: z.re * w.im + z.im * w.re,
+impl Mul for Complex {
+    type Output = Complex;
+
+    ghost mul_gives = { λ z w product. product ≡ z *ᶜ w };
+
+    fn mul(self, w: Complex) -> Complex {
+        Complex {
+            re: self.re * w.re - self.im * w.im,
+            im: self.re * w.im + self.im * w.re,
+        }
     }
 }
 
 // By the conjugate, and by the sum of squares.
-pub fn div(z: Complex, w: Complex) -> Complex
-    ensures { result ≡ z /ᶜ w }
-{
-    let s = w.re * w.re + w.im * w.im;
-    let c = -w.im;
-    Complex {
-        re: (z.re * w.re - z.im * c) / s,
-        im: (z.re * c + z.im * w.re) / s,
+impl Div for Complex {
+    type Output = Complex;
+
+    ghost div_gives = { λ z w quotient. quotient ≡ z /ᶜ w };
+
+    fn div(self, w: Complex) -> Complex {
+        let s = w.re * w.re + w.im * w.im;
+        let c = -w.im;
+        Complex {
+            re: (self.re * w.re - self.im * c) / s,
+            im: (self.re * c + self.im * w.re) / s,
+        }
     }
 }
 
-pub fn scale(z: Complex, s: f64) -> Complex
-    ensures { result ≡ scaleᶜ z s }
-{
-    Complex {
-        re: z.re * s,
-        im: z.im * s,
+impl Mul<f64> for Complex {
+    type Output = Complex;
+
+    ghost mul_gives = { λ z s product. product ≡ scaleᶜ z s };
+
+    fn mul(self, s: f64) -> Complex {
+        Complex {
+            re: self.re * s,
+            im: self.im * s,
+        }
     }
 }
 
-pub fn over(z: Complex, s: f64) -> Complex
-    ensures { result ≡ overᶜ z s }
-{
-    Complex {
-        re: z.re / s,
-        im: z.im / s,
+impl Div<f64> for Complex {
+    type Output = Complex;
+
+    ghost div_gives = { λ z s quotient. quotient ≡ overᶜ z s };
+
+    fn div(self, s: f64) -> Complex {
+        Complex {
+            re: self.re / s,
+            im: self.im / s,
+        }
     }
 }
 
-pub fn real_over(s: f64, z: Complex) -> Complex
-    ensures { result ≡ real_overᶜ s z }
-{
-    div(Complex { re: s, im: 0.0 }, z)
+impl Div<Complex> for f64 {
+    type Output = Complex;
+
+    ghost div_gives = { λ s z quotient. quotient ≡ real_overᶜ s z };
+
+    fn div(self, z: Complex) -> Complex {
+        Complex { re: self, im: 0.0 } / z
+    }
 }
 
 // The modulus, of the sizes of the two parts: no square overflows or is lost beside the larger.

@@ -5,9 +5,27 @@
 #![tactic(auto)]
 
 use std::io;
-use std::io::{Stdin, Stdout};
 
-const FUNCTIONS: u64 = 17;
+// The functions, by their ids.
+const NAMES: [&str; 17] = [
+    "abs",
+    "is_finite",
+    "sqrt",
+    "cbrt",
+    "sin",
+    "cos",
+    "sin_cos",
+    "atan2",
+    "rem_tau",
+    "rem_euclid_tau",
+    "wrap_to_pi",
+    "inverse_wrap_to_pi",
+    "infinity",
+    "add",
+    "sub",
+    "mul",
+    "div",
+];
 
 // Results that are one f64. An id that is none of theirs is answered elsewhere.
 fn result(id: u64, x: f64, y: f64) -> f64 {
@@ -54,50 +72,8 @@ fn agrees(bytes: &[u8; 40], id: u64) -> bool {
     }
 }
 
-// Checks one record, and answers whether there was a whole one.
-fn check(input: &mut Stdin, tally: &mut [u64; 64]) -> bool {
-    let mut bytes = [0u8; 40];
-    if !cases::next(input, &mut bytes, tally) {
-        return false;
-    }
-    let id = cases::word(&bytes, 0);
-    let ok = agrees(&bytes, id);
-    cases::count(tally, FUNCTIONS, id, ok);
-    true
-}
-
-// Input of any length: no run uses up the turns.
-fn check_all(input: &mut Stdin, tally: &mut [u64; 64]) {
-    for _ in 0..u64::MAX {
-        if !check(input, tally) {
-            return;
-        }
-    }
-}
-
-fn report(out: &Stdout, tally: &[u64; 64]) -> io::Result<()> {
-    cases::line(out, b"abs", tally, 0)?;
-    cases::line(out, b"is_finite", tally, 1)?;
-    cases::line(out, b"sqrt", tally, 2)?;
-    cases::line(out, b"cbrt", tally, 3)?;
-    cases::line(out, b"sin", tally, 4)?;
-    cases::line(out, b"cos", tally, 5)?;
-    cases::line(out, b"sin_cos", tally, 6)?;
-    cases::line(out, b"atan2", tally, 7)?;
-    cases::line(out, b"rem_tau", tally, 8)?;
-    cases::line(out, b"rem_euclid_tau", tally, 9)?;
-    cases::line(out, b"wrap_to_pi", tally, 10)?;
-    cases::line(out, b"inverse_wrap_to_pi", tally, 11)?;
-    cases::line(out, b"infinity", tally, 12)?;
-    cases::line(out, b"add", tally, 13)?;
-    cases::line(out, b"sub", tally, 14)?;
-    cases::line(out, b"mul", tally, 15)?;
-    cases::line(out, b"div", tally, 16)?;
-    cases::end(out, tally)
-}
-
 fn main(rt: HostRuntime) -> io::Result<()> {
-    let mut tally = [0u64; 64];
-    check_all(&mut rt.stdin(), &mut tally);
-    report(&rt.stdout(), &tally)
+    cases::run(&rt, &mut [0; 40], 0, &NAMES, |bytes, id| {
+        Some(agrees(bytes.as_array()?, id))
+    })
 }

@@ -6,9 +6,7 @@ mod matrix;
 mod vector;
 
 pub use matrix::{apply, hat, identity, outer, product, rot, rot_unit, row_apply, transpose};
-pub use vector::{
-    Vector3, add, column_sum, cross, dot, neg, norm, norm_squared, normalize, over, scale, sub,
-};
+pub use vector::{Vector3, column_sum, cross, dot, norm, norm_squared, normalize};
 
 // Three rows.
 pub type Matrix3 = [[f64; 3]; 3];

@@ -32,30 +32,21 @@ pub fn outer(a: Vector3, b: Vector3) -> Matrix3
 fn row_product(a: [f64; 3], b: Matrix3) -> [f64; 3]
     ensures { result ≡ row_product a b }
 {
-    let x = a[0];
-    let y = a[1];
-    let z = a[2];
-    let b0 = b[0];
-    let b1 = b[1];
-    let b2 = b[2];
     [
-        x * b0[0] + y * b1[0] + z * b2[0],
-        x * b0[1] + y * b1[1] + z * b2[1],
-        x * b0[2] + y * b1[2] + z * b2[2],
+        a[0] * b[0][0] + a[1] * b[1][0] + a[2] * b[2][0],
+        a[0] * b[0][1] + a[1] * b[1][1] + a[2] * b[2][1],
+        a[0] * b[0][2] + a[1] * b[1][2] + a[2] * b[2][2],
     ]
 }
 
 pub fn product(a: Matrix3, b: Matrix3) -> Matrix3
     ensures { result ≡ product a b }
 {
-    // An element that is an array is copied before it is passed.
-    let a0 = a[0];
-    let a1 = a[1];
-    let a2 = a[2];
-    let r0 = row_product(a0, b);
-    let r1 = row_product(a1, b);
-    let r2 = row_product(a2, b);
-    [r0, r1, r2]
+    [
+        row_product(a[0], b),
+        row_product(a[1], b),
+        row_product(a[2], b),
+    ]
 }
 
 // A row times a column.
@@ -68,13 +59,10 @@ fn row_dot(a: [f64; 3], v: Vector3) -> f64
 pub fn apply(a: Matrix3, v: Vector3) -> Vector3
     ensures { result ≡ apply a v }
 {
-    let a0 = a[0];
-    let a1 = a[1];
-    let a2 = a[2];
     Vector3 {
-        x: row_dot(a0, v),
-        y: row_dot(a1, v),
-        z: row_dot(a2, v),
+        x: row_dot(a[0], v),
+        y: row_dot(a[1], v),
+        z: row_dot(a[2], v),
     }
 }
 
@@ -93,13 +81,10 @@ pub fn row_apply(v: Vector3, a: Matrix3) -> Vector3
 pub fn transpose(a: Matrix3) -> Matrix3
     ensures { result ≡ transpose a }
 {
-    let a0 = a[0];
-    let a1 = a[1];
-    let a2 = a[2];
     [
-        [a0[0], a1[0], a2[0]],
-        [a0[1], a1[1], a2[1]],
-        [a0[2], a1[2], a2[2]],
+        [a[0][0], a[1][0], a[2][0]],
+        [a[0][1], a[1][1], a[2][1]],
+        [a[0][2], a[1][2], a[2][2]],
     ]
 }
 

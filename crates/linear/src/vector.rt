@@ -3,6 +3,8 @@
 ghost use Rattle.std.specs.Prelude.{◌≡◌};
 ghost use Rattle.linear.specs.Vector.{dot, cross, norm, norm_squared, normalize, ◌+ᵛ◌, ◌-ᵛ◌, negᵛ, scaleᵛ, overᵛ, column_sum};
 
+use std::ops::{Add, Div, Mul, Neg, Sub};
+
 #[derive(Clone, Copy)]
 pub struct Vector3 {
     pub x: f64,
@@ -41,65 +43,81 @@ pub fn norm(a: Vector3) -> f64
 pub fn normalize(a: Vector3) -> Vector3
     ensures { result ≡ normalize a }
 {
-    over(a, norm(a))
+    a / norm(a)
 }
 
-pub fn add(a: Vector3, b: Vector3) -> Vector3
-    ensures { result ≡ a +ᵛ b }
-{
-    Vector3 {
-        x: a.x + b.x,
-        y: a.y + b.y,
-        z: a.z + b.z,
+impl Add for Vector3 {
+    type Output = Vector3;
+
+    ghost add_gives = { λ a b sum. sum ≡ a +ᵛ b };
+
+    fn add(self, b: Vector3) -> Vector3 {
+        Vector3 {
+            x: self.x + b.x,
+            y: self.y + b.y,
+            z: self.z + b.z,
+        }
     }
 }
 
-pub fn sub(a: Vector3, b: Vector3) -> Vector3
-    ensures { result ≡ a -ᵛ b }
-{
-    Vector3 {
-        x: a.x - b.x,
-        y: a.y - b.y,
-        z: a.z - b.z,
+impl Sub for Vector3 {
+    type Output = Vector3;
+
+    ghost sub_gives = { λ a b difference. difference ≡ a -ᵛ b };
+
+    fn sub(self, b: Vector3) -> Vector3 {
+        Vector3 {
+            x: self.x - b.x,
+            y: self.y - b.y,
+            z: self.z - b.z,
+        }
     }
 }
 
-pub fn neg(a: Vector3) -> Vector3
-    ensures { result ≡ negᵛ a }
-{
-    Vector3 {
-        x: -a.x,
-        y: -a.y,
-        z: -a.z,
+impl Neg for Vector3 {
+    type Output = Vector3;
+
+    ghost neg_gives = { λ a minus. minus ≡ negᵛ a };
+
+    fn neg(self) -> Vector3 {
+        Vector3 {
+            x: -self.x,
+            y: -self.y,
+            z: -self.z,
+        }
     }
 }
 
-pub fn scale(a: Vector3, s: f64) -> Vector3
-    ensures { result ≡ scaleᵛ a s }
-{
-    Vector3 {
-        x: a.x * s,
-        y: a.y * s,
-        z: a.z * s,
+impl Mul<f64> for Vector3 {
+    type Output = Vector3;
+
+    ghost mul_gives = { λ a s product. product ≡ scaleᵛ a s };
+
+    fn mul(self, s: f64) -> Vector3 {
+        Vector3 {
+            x: self.x * s,
+            y: self.y * s,
+            z: self.z * s,
+        }
     }
 }
 
-pub fn over(a: Vector3, s: f64) -> Vector3
-    ensures { result ≡ overᵛ a s }
-{
-    Vector3 {
-        x: a.x / s,
-        y: a.y / s,
-        z: a.z / s,
+impl Div<f64> for Vector3 {
+    type Output = Vector3;
+
+    ghost div_gives = { λ a s quotient. quotient ≡ overᵛ a s };
+
+    fn div(self, s: f64) -> Vector3 {
+        Vector3 {
+            x: self.x / s,
+            y: self.y / s,
+            z: self.z / s,
+        }
     }
 }
 
 pub fn column_sum(a: Vector3, b: Vector3, c: Vector3, d: Vector3) -> Vector3
     ensures { result ≡ column_sum a b c d }
 {
-    Vector3 {
-        x: a.x + b.x + c.x + d.x,
-        y: a.y + b.y + c.y + d.y,
-        z: a.z + b.z + c.z + d.z,
-    }
+    a + b + c + d
 }

@@ -7,9 +7,25 @@ ghost use Rattle.std.specs.Prelude.{◌+◌, ◌≤◌};
 
 use linear::{Matrix3, Vector3};
 use std::io;
-use std::io::{Stdin, Stdout};
 
-const FUNCTIONS: u64 = 15;
+// The functions, by their ids.
+const NAMES: [&str; 15] = [
+    "dot",
+    "cross",
+    "norm",
+    "norm_squared",
+    "normalize",
+    "add",
+    "sub",
+    "neg",
+    "scale",
+    "product",
+    "apply",
+    "transpose",
+    "hat",
+    "rot",
+    "column_sum",
+];
 
 // The place of the first result.
 const RESULTS: usize = 19;
@@ -55,10 +71,10 @@ fn vector_result(bytes: &[u8; 224], id: u64) -> Vector3 {
     match id {
         1 => linear::cross(a, b),
         4 => linear::normalize(a),
-        5 => linear::add(a, b),
-        6 => linear::sub(a, b),
-        7 => linear::neg(a),
-        8 => linear::scale(a, cases::argument(bytes, 4)),
+        5 => a + b,
+        6 => a - b,
+        7 => -a,
+        8 => a * cases::argument(bytes, 4),
         10 => linear::apply(matrix(bytes, 1), vector(bytes, 10)),
         _ => linear::column_sum(a, b, vector(bytes, 7), vector(bytes, 10)),
     }
@@ -107,48 +123,8 @@ fn agrees(bytes: &[u8; 224], id: u64) -> bool {
     }
 }
 
-// Checks one record, and answers whether there was a whole one.
-fn check(input: &mut Stdin, tally: &mut [u64; 64]) -> bool {
-    let mut bytes = [0u8; 224];
-    if !cases::next(input, &mut bytes, tally) {
-        return false;
-    }
-    let id = cases::word(&bytes, 0);
-    let ok = agrees(&bytes, id);
-    cases::count(tally, FUNCTIONS, id, ok);
-    true
-}
-
-// Input of any length: no run uses up the turns.
-fn check_all(input: &mut Stdin, tally: &mut [u64; 64]) {
-    for _ in 0..u64::MAX {
-        if !check(input, tally) {
-            return;
-        }
-    }
-}
-
-fn report(out: &Stdout, tally: &[u64; 64]) -> io::Result<()> {
-    cases::line(out, b"dot", tally, 0)?;
-    cases::line(out, b"cross", tally, 1)?;
-    cases::line(out, b"norm", tally, 2)?;
-    cases::line(out, b"norm_squared", tally, 3)?;
-    cases::line(out, b"normalize", tally, 4)?;
-    cases::line(out, b"add", tally, 5)?;
-    cases::line(out, b"sub", tally, 6)?;
-    cases::line(out, b"neg", tally, 7)?;
-    cases::line(out, b"scale", tally, 8)?;
-    cases::line(out, b"product", tally, 9)?;
-    cases::line(out, b"apply", tally, 10)?;
-    cases::line(out, b"transpose", tally, 11)?;
-    cases::line(out, b"hat", tally, 12)?;
-    cases::line(out, b"rot", tally, 13)?;
-    cases::line(out, b"column_sum", tally, 14)?;
-    cases::end(out, tally)
-}
-
 fn main(rt: HostRuntime) -> io::Result<()> {
-    let mut tally = [0u64; 64];
-    check_all(&mut rt.stdin(), &mut tally);
-    report(&rt.stdout(), &tally)
+    cases::run(&rt, &mut [0; 224], 0, &NAMES, |bytes, id| {
+        Some(agrees(bytes.as_array()?, id))
+    })
 }

@@ -15,12 +15,10 @@ fn rem_shifted(m: u64, k: u64) -> u64
     ensures { (result ≡ (m * 2 ^ k) % tau_digits) × (result < 2 ^ 53) }
 {
     let mut r = m % TAU_DIGITS;
-    let mut left = k;
-    while 11 <= left {
+    for _ in 0..k / 11 {
         r = r * 2048 % TAU_DIGITS;
-        left = left - 11;
     }
-    (r << left) % TAU_DIGITS
+    (r << (k % 11)) % TAU_DIGITS
 }
 
 // The remainder of the value of a pattern, in units of 2^-50, for a value that is 4 or more.

@@ -1,7 +1,7 @@
 -- Both sides are the same operations.
 use mathlib.Core.Path.{refl}
 use Rattle.complex.specs.Complex.{◌*ᶜ◌}
-use Rattle.complex.proofs.mul.Goals as goal
+use Rattle.complex.proofs.ComplexMul.mul.Goals as goal
 
 pub returns : goal.returns
 unfolding ◌*ᶜ◌

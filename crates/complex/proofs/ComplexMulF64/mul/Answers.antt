@@ -1,7 +1,7 @@
 -- Both sides are the same operations.
 use mathlib.Core.Path.{refl}
 use Rattle.complex.specs.Complex.{scaleᶜ}
-use Rattle.complex.proofs.scale.Goals as goal
+use Rattle.complex.proofs.ComplexMulF64.mul.Goals as goal
 
 pub returns : goal.returns
 unfolding scaleᶜ

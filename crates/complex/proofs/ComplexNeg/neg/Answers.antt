@@ -1,7 +1,7 @@
 -- Both sides are the same operations.
 use mathlib.Core.Path.{refl}
 use Rattle.complex.specs.Complex.{negᶜ}
-use Rattle.complex.proofs.neg.Goals as goal
+use Rattle.complex.proofs.ComplexNeg.neg.Goals as goal
 
 pub returns : goal.returns
 unfolding negᶜ
