@@ -3,11 +3,11 @@
 use Rattle.std.specs.Prelude.{map, Float}
 use Rattle.std.specs.Float.Ieee.{neg}
 use Rattle.float.specs.Num.{◌⊕◌, ◌⊖◌, ◌⊗◌, ◌⊘◌, one, two}
-use Rattle.solutionset.specs.PairSet4.{from_vec}
-use Rattle.solutionset.specs.declared.pairs.Pair.{Pair}
-use Rattle.solutionset.specs.declared.pairs.PairSet4.{PairSet4}
+use Rattle.solutionset.specs.SolutionSet4.{from_vec}
+use Rattle.solutionset.specs.declared.Pair.{Pair}
+use Rattle.solutionset.specs.declared.set4.SolutionSet4.{SolutionSet4}
 use Rattle.polynomial.specs.Const.{epsilon}
-use Rattle.polynomial.specs.Roots.{roots, real_parts, real_quartic}
+use Rattle.polynomial.specs.Roots.{real_parts, real_quartic}
 use Rattle.polynomial.specs.Quartic.{solve_quartic_roots}
 use Rattle.polynomial.specs.declared.Vector2.{Vector2}
 use Rattle.polynomial.specs.declared.Vector5.{Vector5}
@@ -194,9 +194,9 @@ x_of g h y =
 abbrev pub point : Conic → Conic → Float → Pair
 point g h y = record { first = x_of g h y; second = y }
 
-unfoldable pub solve_two_ellipse_numeric : Vector2 → Matrix2 → Vector2 → Matrix2 → PairSet4
+unfoldable pub solve_two_ellipse_numeric : Vector2 → Matrix2 → Vector2 → Matrix2 → SolutionSet4 Pair
 solve_two_ellipse_numeric xm1 xn1 xm2 xn2 =
     let g = coefficients xm1 xn1 in
     let h = coefficients xm2 xn2 in
     let y = solve_quartic_roots (real_quartic (quartic_in_y g h)) in
-    from_vec (map (point g h) (real_parts epsilon (roots y)))
+    from_vec (map (point g h) (real_parts epsilon y))

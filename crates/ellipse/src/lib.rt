@@ -1,13 +1,13 @@
 // The points where two ellipses meet.
 #![tactic(auto)]
 
-ghost use Rattle.std.specs.Prelude.{◌≡◌, ◌≤◌, map, take};
-ghost use Rattle.solutionset.specs.PairSet4.{from_vec};
+ghost use Rattle.std.specs.Prelude.{◌≡◌};
 ghost use Rattle.ellipse.specs.Ellipse.{coefficients, z0, z1, z2, z3, z4, quartic_in_y, x_of, point, solve_two_ellipse_numeric};
 
-use polynomial::terms::EPSILON;
-use polynomial::{Matrix2, Vector2, Vector5, real_parts, real_quartic, solve_quartic_roots};
-use solutionset::{Pair, PairSet4};
+use polynomial::{
+    EPSILON, Matrix2, Vector2, Vector5, real_parts, real_quartic, solve_quartic_roots,
+};
+use solutionset::{Pair, SolutionSet4};
 
 // The coefficients of an ellipse: a x x + b x y + c y y + d x + e y + f = 0.
 #[derive(Clone, Copy)]
@@ -21,6 +21,7 @@ pub struct Conic {
 }
 
 // The coefficients of the ellipse of xm and xn: of xn' xn, 2 xm' xn and xm' xm - 1.
+#[tactic(auto, unfolding(crate::specs::Ellipse::coefficients))]
 fn coefficients(xm: Vector2, xn: Matrix2) -> Conic
     ensures { result ≡ coefficients xm xn }
 {
@@ -37,6 +38,7 @@ fn coefficients(xm: Vector2, xn: Matrix2) -> Conic
 }
 
 // The coefficients of the quartic in y, of the ellipses g and h.
+#[tactic(auto, unfolding(crate::specs::Ellipse::z0))]
 fn z0(g: Conic, h: Conic) -> f64
     ensures { result ≡ z0 g h }
 {
@@ -52,6 +54,7 @@ fn z0(g: Conic, h: Conic) -> f64
         + a1 * d * d * fq
 }
 
+#[tactic(auto, unfolding(crate::specs::Ellipse::z1))]
 fn z1(g: Conic, h: Conic) -> f64
     ensures { result ≡ z1 g h }
 {
@@ -78,6 +81,7 @@ fn z1(g: Conic, h: Conic) -> f64
         + 2.0 * fq * b * a1 * d
 }
 
+#[tactic(auto, unfolding(crate::specs::Ellipse::z2))]
 fn z2(g: Conic, h: Conic) -> f64
     ensures { result ≡ z2 g h }
 {
@@ -113,6 +117,7 @@ fn z2(g: Conic, h: Conic) -> f64
         - 2.0 * a * fq * a1 * c
 }
 
+#[tactic(auto, unfolding(crate::specs::Ellipse::z3))]
 fn z3(g: Conic, h: Conic) -> f64
     ensures { result ≡ z3 g h }
 {
@@ -139,6 +144,7 @@ fn z3(g: Conic, h: Conic) -> f64
         - c1 * d1 * a * b
 }
 
+#[tactic(auto, unfolding(crate::specs::Ellipse::z4))]
 fn z4(g: Conic, h: Conic) -> f64
     ensures { result ≡ z4 g h }
 {
@@ -153,6 +159,7 @@ fn z4(g: Conic, h: Conic) -> f64
         + c * a * b1 * b1
 }
 
+#[tactic(auto, unfolding(crate::specs::Ellipse::quartic_in_y))]
 fn quartic_in_y(g: Conic, h: Conic) -> Vector5
     ensures { result ≡ quartic_in_y g h }
 {
@@ -166,6 +173,7 @@ fn quartic_in_y(g: Conic, h: Conic) -> Vector5
 }
 
 // x at a root y.
+#[tactic(auto, unfolding(crate::specs::Ellipse::x_of))]
 fn x_of(g: Conic, h: Conic, y: f64) -> f64
     ensures { result ≡ x_of g h y }
 {
@@ -195,25 +203,17 @@ fn point(g: Conic, h: Conic, y: f64) -> Pair
     }
 }
 
-// The points of the first `count` roots.
-fn points(g: Conic, h: Conic, y: [f64; 4], count: usize) -> PairSet4
-    requires { count ≤ 4 }
-    ensures { result ≡ from_vec (take count (map (point g h) y)) }
-{
-    let s1 = point(g, h, y[0]);
-    let s2 = point(g, h, y[1]);
-    let s3 = point(g, h, y[2]);
-    let s4 = point(g, h, y[3]);
-    PairSet4::from_slots([s1, s2, s3, s4], count)
-}
-
-pub fn solve_two_ellipse_numeric(xm1: Vector2, xn1: Matrix2, xm2: Vector2, xn2: Matrix2) -> PairSet4
+pub fn solve_two_ellipse_numeric(
+    xm1: Vector2,
+    xn1: Matrix2,
+    xm2: Vector2,
+    xn2: Matrix2,
+) -> SolutionSet4<Pair>
     ensures { result ≡ solve_two_ellipse_numeric xm1 xn1 xm2 xn2 }
 {
     let g = coefficients(xm1, xn1);
     let h = coefficients(xm2, xn2);
     let found = solve_quartic_roots(real_quartic(quartic_in_y(g, h)));
-    let reals = real_parts(EPSILON, found);
-    let y = reals.slots;
-    points(g, h, y, reals.count)
+    let reals = real_parts(EPSILON, &found);
+    SolutionSet4::from_vec(&reals).map(|y| point(g, h, y))
 }

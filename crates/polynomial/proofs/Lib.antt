@@ -1,2 +1,2 @@
-pub mod RootCount
+pub mod Literals
 pub mod Filter

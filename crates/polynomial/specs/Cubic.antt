@@ -1,15 +1,14 @@
 -- solve_cubic_roots of subproblems/auxiliary.rs: "Solves the roots of a cubic equation using the cubic formula", https://en.wikipedia.org/wiki/Cubic_equation#General_cubic_formula.
 -- A let of the Rust is a let here, by its name. Document 01: "Roots fall to the lower degree exactly if |a| < 1e-12."
-use Rattle.std.specs.Prelude.{cond, [], ◌∷◌}
+use Rattle.std.specs.Prelude.{cond, List, [], ◌∷◌}
 use Rattle.std.specs.Float.Ieee.{lt, neg}
 use Rattle.float.specs.Num.{as_f64, one, two}
 use Rattle.complex.specs.Complex.{◌+ᶜ◌, ◌-ᶜ◌, ◌*ᶜ◌, ◌/ᶜ◌, overᶜ, real_overᶜ, absᶜ, sqrtᶜ, cbrtᶜ}
 use Rattle.complex.specs.declared.Complex.{Complex}
 use Rattle.polynomial.specs.Const.{epsilon}
-use Rattle.polynomial.specs.Roots.{◌·ᶜ◌, from_real, in_slots}
+use Rattle.polynomial.specs.Roots.{◌·ᶜ◌, from_real}
 use Rattle.polynomial.specs.Quadratic.{solve_quadratic_roots}
 use Rattle.polynomial.specs.declared.Cubic.{Cubic}
-use Rattle.polynomial.specs.declared.Roots.{Roots}
 
 unfoldable pub z : Complex
 z = overᶜ (from_real (neg one) +ᶜ sqrtᶜ (from_real (neg (as_f64 3)))) two
@@ -34,17 +33,17 @@ outer a = real_overᶜ (neg one) (3 ·ᶜ a)
 abbrev pub root : Complex → Complex → Complex → Complex → Complex
 root a b p1 e = outer a *ᶜ (b +ᶜ e +ᶜ p1 /ᶜ e)
 
-unfoldable pub three_roots : Complex → Complex → Complex → Complex → Roots
+unfoldable pub three_roots : Complex → Complex → Complex → Complex → List Complex
 three_roots a b p1 e0 =
     let e1 = e0 *ᶜ z in
     let e2 = e1 *ᶜ z in
-    in_slots (root a b p1 e0 ∷ root a b p1 e1 ∷ root a b p1 e2 ∷ [])
+    root a b p1 e0 ∷ root a b p1 e1 ∷ root a b p1 e2 ∷ []
 
 -- the root that stands three times
-unfoldable pub one_root : Complex → Complex → Roots
-one_root a b = let r = outer a *ᶜ b in in_slots (r ∷ r ∷ r ∷ [])
+unfoldable pub one_root : Complex → Complex → List Complex
+one_root a b = let r = outer a *ᶜ b in r ∷ r ∷ r ∷ []
 
-unfoldable pub solve_cubic_roots : Cubic → Roots
+unfoldable pub solve_cubic_roots : Cubic → List Complex
 solve_cubic_roots p =
     let a = p.a in
     let b = p.b in

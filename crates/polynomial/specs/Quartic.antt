@@ -1,15 +1,14 @@
 -- solve_quartic_roots of subproblems/auxiliary.rs: "Solves the roots of a quartic equation using the quartic formula", https://math.stackexchange.com/a/786.
 -- A let of the Rust is a let here, by its name. Document 01: "Roots fall to the lower degree exactly if |a| < 1e-12."
-use Rattle.std.specs.Prelude.{cond, [], ◌∷◌}
+use Rattle.std.specs.Prelude.{cond, List, [], ◌∷◌}
 use Rattle.std.specs.Float.Ieee.{lt, neg}
 use Rattle.float.specs.Num.{as_f64, two}
 use Rattle.complex.specs.Complex.{◌+ᶜ◌, ◌-ᶜ◌, ◌*ᶜ◌, ◌/ᶜ◌, negᶜ, scaleᶜ, overᶜ, absᶜ, sqrtᶜ, cbrtᶜ}
 use Rattle.complex.specs.declared.Complex.{Complex}
 use Rattle.polynomial.specs.Const.{epsilon}
-use Rattle.polynomial.specs.Roots.{◌·ᶜ◌, in_slots}
+use Rattle.polynomial.specs.Roots.{◌·ᶜ◌}
 use Rattle.polynomial.specs.Cubic.{solve_cubic_roots}
 use Rattle.polynomial.specs.declared.Quartic.{Quartic}
-use Rattle.polynomial.specs.declared.Roots.{Roots}
 
 unfoldable pub p1_of : Complex → Complex → Complex → Complex → Complex → Complex
 p1_of a b c d e =
@@ -56,17 +55,16 @@ minus_root p5 p6 = overᶜ (sqrtᶜ (p5 -ᶜ p6)) two
 unfoldable pub plus_root : Complex → Complex → Complex
 plus_root p5 p6 = overᶜ (sqrtᶜ (p5 +ᶜ p6)) two
 
-unfoldable pub four_roots : Complex → Complex → Complex → Complex → Complex → Roots
+unfoldable pub four_roots : Complex → Complex → Complex → Complex → Complex → List Complex
 four_roots a b p4 p5 p6 =
-    in_slots
-    ((centre a b -ᶜ overᶜ p4 two -ᶜ minus_root p5 p6)
+    (centre a b -ᶜ overᶜ p4 two -ᶜ minus_root p5 p6)
     ∷ (centre a b -ᶜ overᶜ p4 two +ᶜ minus_root p5 p6)
     ∷ (centre a b +ᶜ overᶜ p4 two -ᶜ plus_root p5 p6)
     ∷ (centre a b +ᶜ overᶜ p4 two +ᶜ plus_root p5 p6)
-    ∷ [])
+    ∷ []
 
 -- the formula, for an a that counts as more than zero
-unfoldable pub formula : Complex → Complex → Complex → Complex → Complex → Roots
+unfoldable pub formula : Complex → Complex → Complex → Complex → Complex → List Complex
 formula a b c d e =
     let p1 = p1_of a b c d e in
     let q1 = q1_of a b c d e in
@@ -78,7 +76,7 @@ formula a b c d e =
     let p6 = p6_of a b c d p4 in
     four_roots a b p4 p5 p6
 
-unfoldable pub solve_quartic_roots : Quartic → Roots
+unfoldable pub solve_quartic_roots : Quartic → List Complex
 solve_quartic_roots p =
     let a = p.a in
     let b = p.b in

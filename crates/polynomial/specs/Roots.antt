@@ -1,12 +1,10 @@
--- Roots of polynomials with complex coefficients: at most four, in four slots with a count.
-use Rattle.std.specs.Prelude.{ℕ, cond, List, [], ◌∷◌, Float, length, take}
+-- Roots of polynomials with complex coefficients, as lists.
+use Rattle.std.specs.Prelude.{ℕ, cond, List, [], ◌∷◌, Float}
 use Rattle.std.specs.Float.Ieee.{lt}
 use Rattle.float.specs.Num.{as_f64, nought}
 use Rattle.float.specs.Number.{abs}
 use Rattle.complex.specs.Complex.{scaleᶜ}
 use Rattle.complex.specs.declared.Complex.{Complex}
-use Rattle.solutionset.specs.Slots.{padded}
-use Rattle.polynomial.specs.declared.Roots.{Roots}
 use Rattle.polynomial.specs.declared.Quartic.{Quartic}
 use Rattle.polynomial.specs.declared.Vector5.{Vector5}
 
@@ -18,14 +16,6 @@ k ·ᶜ z = scaleᶜ z (as_f64 k)
 -- Complex::from_real
 abbrev pub from_real : Float → Complex
 from_real x = record { re = x; im = nought }
-
--- a list of roots, in slots: an unused one holds (0.0, 0.0)
-abbrev pub in_slots : List Complex → Roots
-in_slots l = record { slots = padded 4 (from_real nought) l; count = length l }
-
--- the roots, as a list
-abbrev pub roots : Roots → List Complex
-roots r = take r.count r.slots
 
 -- `.filter(|z| z.im.abs() < epsilon).map(|z| z.re)`
 unfoldable pub real_parts : Float → List Complex → List Float

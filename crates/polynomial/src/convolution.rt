@@ -5,6 +5,7 @@ ghost use Rattle.polynomial.specs.Convolution.{vec_self_convolve_2, vec_self_con
 use crate::{Cone, Vector2, Vector5};
 use linear::Vector3;
 
+#[tactic(auto, unfolding(crate::specs::Convolution::vec_self_convolve_2))]
 pub fn vec_self_convolve_2(v: Vector2) -> Vector3
     ensures { result ≡ vec_self_convolve_2 v }
 {
@@ -17,6 +18,7 @@ pub fn vec_self_convolve_2(v: Vector2) -> Vector3
     }
 }
 
+#[tactic(auto, unfolding(crate::specs::Convolution::vec_self_convolve_3))]
 pub fn vec_self_convolve_3(v: Vector3) -> Vector5
     ensures { result ≡ vec_self_convolve_3 v }
 {
@@ -32,6 +34,7 @@ pub fn vec_self_convolve_3(v: Vector3) -> Vector5
     }
 }
 
+#[tactic(auto, unfolding(crate::specs::Convolution::vec_convolve_3))]
 pub fn vec_convolve_3(v1: Vector3, v2: Vector3) -> Vector5
     ensures { result ≡ vec_convolve_3 v1 v2 }
 {
@@ -50,6 +53,7 @@ pub fn vec_convolve_3(v1: Vector3, v2: Vector3) -> Vector5
     }
 }
 
+#[tactic(auto, unfolding(crate::specs::Convolution::cone_polynomials))]
 pub fn cone_polynomials(
     p0_i: Vector3,
     k_i: Vector3,

@@ -8,7 +8,6 @@ mod cubic_roots;
 mod quadratic_roots;
 mod quartic_roots;
 mod reals;
-pub mod terms;
 mod triangular;
 
 use complex::Complex;
@@ -20,6 +19,10 @@ pub use quartic_roots::solve_quartic_roots;
 pub use reals::{real_parts, real_quartic};
 pub use triangular::solve_lower_triangular_system_2x2;
 
+// Below it a leading coefficient counts as zero, and so does an imaginary part.
+pub const EPSILON: f64 = 1e-12;
+
+// Vectors have named fields, and not an array of N: each function here is of one size.
 #[derive(Clone, Copy)]
 pub struct Vector2 {
     pub x: f64,
@@ -75,11 +78,4 @@ pub struct Quartic {
     pub c: Complex,
     pub d: Complex,
     pub e: Complex,
-}
-
-// Up to four roots. An unused slot holds (0.0, 0.0).
-#[derive(Clone, Copy)]
-pub struct Roots {
-    pub slots: [Complex; 4],
-    pub count: usize,
 }

@@ -2,44 +2,33 @@
 ghost use Rattle.std.specs.Prelude.{◌≡◌};
 ghost use Rattle.polynomial.specs.Quadratic.{both, solve_quadratic_roots};
 
-use crate::terms::{EPSILON, times2};
-use crate::{Quadratic, Roots};
+use crate::{EPSILON, Quadratic};
+use arrayvec::ArrayVec;
 use complex::Complex;
 
-fn both(a: Complex, b: Complex, p: Complex) -> Roots
-    ensures { result ≡ both a b p }
+#[tactic(auto, using(crate::proofs::Literals::two))]
+fn both(a: Complex, b: Complex, p: Complex) -> ArrayVec<Complex, 4>
+    ensures { result.items ≡ both a b p }
 {
-    let none = Complex { re: 0.0, im: 0.0 };
-    let minus = complex::neg(b);
-    let twice = complex::scale(a, 2.0);
-    let first = complex::div(complex::add(minus, p), twice);
-    let second = complex::div(complex::sub(minus, p), twice);
-    Roots {
-        slots: [first, second, none, none],
-        count: 2,
-    }
+    let twice = a * 2.0;
+    let mut roots = ArrayVec::new();
+    roots.push((-b + p) / twice);
+    roots.push((-b - p) / twice);
+    roots
 }
 
-pub fn solve_quadratic_roots(p: Quadratic) -> Roots
-    ensures { result ≡ solve_quadratic_roots p }
+#[tactic(auto, using(crate::proofs::Literals::four), unfolding(crate::specs::Quadratic::solve_quadratic_roots))]
+pub fn solve_quadratic_roots(p: Quadratic) -> ArrayVec<Complex, 4>
+    ensures { result.items ≡ solve_quadratic_roots p }
 {
-    let a = p.a;
-    let b = p.b;
-    let c = p.c;
-    let none = Complex { re: 0.0, im: 0.0 };
+    let Quadratic { a, b, c } = p;
     if complex::abs(a) < EPSILON {
+        let mut roots = ArrayVec::new();
         if complex::abs(b) < EPSILON {
-            return Roots {
-                slots: [none, none, none, none],
-                count: 0,
-            };
+            return roots;
         }
-        let only = complex::div(complex::neg(c), b);
-        return Roots {
-            slots: [only, none, none, none],
-            count: 1,
-        };
+        roots.push(-c / b);
+        return roots;
     }
-    let discriminant = complex::sub(complex::mul(b, b), times2(4.0, a, c));
-    both(a, b, complex::sqrt(discriminant))
+    both(a, b, complex::sqrt(b * b - a * 4.0 * c))
 }

@@ -1,11 +1,10 @@
 // Polynomials with real coefficients, and the roots that count as real.
-ghost use Rattle.std.specs.Prelude.{◌≡◌, take};
-ghost use Rattle.solutionset.specs.SolutionSet4.{slots};
-ghost use Rattle.polynomial.specs.Roots.{roots, real_parts, real_quartic};
+ghost use Rattle.std.specs.Prelude.{◌≡◌};
+ghost use Rattle.polynomial.specs.Roots.{real_parts, real_quartic};
 
-use crate::{Quartic, Roots, Vector5};
+use crate::{Quartic, Vector5};
+use arrayvec::ArrayVec;
 use complex::Complex;
-use solutionset::Slots4;
 
 // The polynomial with these real coefficients.
 pub fn real_quartic(v: Vector5) -> Quartic
@@ -20,31 +19,15 @@ pub fn real_quartic(v: Vector5) -> Quartic
     }
 }
 
-// The real parts of the first `count` whose imaginary part is smaller than epsilon, in their order.
-fn filtered(epsilon: f64, from: [Complex; 4], count: usize) -> Slots4
-    ensures { result ≡ slots (real_parts epsilon (take count from)) }
+// The real parts of those roots whose imaginary part is smaller than epsilon, in their order.
+pub fn real_parts(epsilon: f64, found: &ArrayVec<Complex, 4>) -> ArrayVec<f64, 4>
+    ensures { result.items ≡ real_parts epsilon found.now.items }
 {
-    let mut slots = [0.0; 4];
-    let mut n: usize = 0;
-    let mut i: usize = 0;
-    while i < 4 {
-        if count <= i {
-            break;
-        }
-        let z = from[i];
+    let mut reals = ArrayVec::new();
+    for z in found.iter() {
         if float::abs(z.im) < epsilon {
-            slots[n] = z.re;
-            n += 1;
+            reals.push(z.re);
         }
-        i += 1;
     }
-    Slots4 { slots, count: n }
-}
-
-// The roots that count as real.
-pub fn real_parts(epsilon: f64, found: Roots) -> Slots4
-    ensures { result ≡ slots (real_parts epsilon (roots found)) }
-{
-    let from = found.slots;
-    filtered(epsilon, from, found.count)
+    reals
 }

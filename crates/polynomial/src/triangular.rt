@@ -4,6 +4,7 @@ ghost use Rattle.polynomial.specs.Triangular.{solve_lower_triangular_system_2x2}
 
 use crate::{Matrix2, Vector2};
 
+#[tactic(auto, unfolding(crate::specs::Triangular::solve_lower_triangular_system_2x2))]
 pub fn solve_lower_triangular_system_2x2(l: Matrix2, b_v: Vector2) -> Vector2
     ensures { result ≡ solve_lower_triangular_system_2x2 l b_v }
 {

@@ -5,9 +5,20 @@
 #![tactic(auto)]
 
 use std::io;
-use std::io::{Stdin, Stdout};
 
-const FUNCTIONS: u64 = 10;
+// The functions, by their ids.
+const NAMES: [&str; 10] = [
+    "cone_polynomials",
+    "vec_self_convolve_2",
+    "vec_self_convolve_3",
+    "vec_convolve_3",
+    "solve_quartic_roots",
+    "solve_cubic_roots",
+    "solve_quadratic_roots",
+    "solve_lower_triangular_system_2x2",
+    "qr",
+    "solve_two_ellipse_numeric",
+];
 
 // The place of the first result.
 const RESULTS: usize = 41;
@@ -29,43 +40,8 @@ fn agrees(bytes: &[u8; 512], id: u64) -> bool {
     gives(bytes, &out)
 }
 
-// Checks one record, and answers whether there was a whole one.
-fn check(input: &mut Stdin, tally: &mut [u64; 64]) -> bool {
-    let mut bytes = [0u8; 512];
-    if !cases::next(input, &mut bytes, tally) {
-        return false;
-    }
-    let id = cases::word(&bytes, 0);
-    let ok = agrees(&bytes, id);
-    cases::count(tally, FUNCTIONS, id, ok);
-    true
-}
-
-// Input of any length: no run uses up the turns.
-fn check_all(input: &mut Stdin, tally: &mut [u64; 64]) {
-    for _ in 0..u64::MAX {
-        if !check(input, tally) {
-            return;
-        }
-    }
-}
-
-fn report(out: &Stdout, tally: &[u64; 64]) -> io::Result<()> {
-    cases::line(out, b"cone_polynomials", tally, 0)?;
-    cases::line(out, b"vec_self_convolve_2", tally, 1)?;
-    cases::line(out, b"vec_self_convolve_3", tally, 2)?;
-    cases::line(out, b"vec_convolve_3", tally, 3)?;
-    cases::line(out, b"solve_quartic_roots", tally, 4)?;
-    cases::line(out, b"solve_cubic_roots", tally, 5)?;
-    cases::line(out, b"solve_quadratic_roots", tally, 6)?;
-    cases::line(out, b"solve_lower_triangular_system_2x2", tally, 7)?;
-    cases::line(out, b"qr", tally, 8)?;
-    cases::line(out, b"solve_two_ellipse_numeric", tally, 9)?;
-    cases::end(out, tally)
-}
-
 fn main(rt: HostRuntime) -> io::Result<()> {
-    let mut tally = [0u64; 64];
-    check_all(&mut rt.stdin(), &mut tally);
-    report(&rt.stdout(), &tally)
+    cases::run(&rt, &mut [0; 512], 0, &NAMES, |bytes, id| {
+        Some(agrees(bytes.as_array()?, id))
+    })
 }

@@ -9,19 +9,13 @@ use crate::{QrFactors, Vector4};
 use linear::Vector3;
 use polynomial::Matrix2;
 
-// A reflection of vectors of four: by v, and by v·v. It is skipped where its part is zero.
+// The parts of four and of three have functions of their own: each sum is written out in document 01's order,
+// and over an array of N it would be a loop, which is no plainer.
+// A reflection: by v, and by v·v. There is none of a part that is zero. Of four, V is Vector4; of the last
+// three of four, Vector3.
 #[derive(Clone, Copy)]
-pub struct Reflection4 {
-    pub skip: bool,
-    pub v: Vector4,
-    pub vv: f64,
-}
-
-// A reflection of the last three of four.
-#[derive(Clone, Copy)]
-pub struct Reflection3 {
-    pub skip: bool,
-    pub v: Vector3,
+pub struct Reflection<V> {
+    pub v: V,
     pub vv: f64,
 }
 
@@ -104,9 +98,13 @@ fn zero_4(a: Vector4) -> bool
     false
 }
 
-fn reflection_4(a: Vector4) -> Reflection4
+#[tactic(auto, unfolding(crate::specs::Port::reflection_4))]
+fn reflection_4(a: Vector4) -> Option<Reflection<Vector4>>
     ensures { result ≡ reflection_4 a }
 {
+    if zero_4(a) {
+        return None;
+    }
     let x = lead(a.x, float::sqrt(dot_4(a, a)));
     let v = Vector4 {
         x,
@@ -114,68 +112,76 @@ fn reflection_4(a: Vector4) -> Reflection4
         z: a.z,
         w: a.w,
     };
-    Reflection4 {
-        skip: zero_4(a),
-        v,
-        vv: dot_4(v, v),
-    }
+    Some(Reflection { v, vv: dot_4(v, v) })
 }
 
-fn reflect_4(m: Reflection4, w: Vector4) -> Vector4
+#[tactic(auto, unfolding(crate::specs::Port::reflect_4))]
+fn reflect_4(m: Option<Reflection<Vector4>>, w: Vector4) -> Vector4
     ensures { result ≡ reflect_4 m w }
 {
-    if m.skip {
-        return w;
-    }
-    let v = m.v;
-    let vv = m.vv;
-    let factor = 2.0 * dot_4(v, w) / vv;
-    Vector4 {
-        x: w.x - v.x * factor,
-        y: w.y - v.y * factor,
-        z: w.z - v.z * factor,
-        w: w.w - v.w * factor,
+    match m {
+        None => w,
+        Some(Reflection { v, vv }) => {
+            let factor = 2.0 * dot_4(v, w) / vv;
+            Vector4 {
+                x: w.x - v.x * factor,
+                y: w.y - v.y * factor,
+                z: w.z - v.z * factor,
+                w: w.w - v.w * factor,
+            }
+        }
     }
 }
 
-fn reflection_3(a: Vector3) -> Reflection3
+#[tactic(auto, unfolding(crate::specs::Port::reflection_3, linear::specs::Vector::norm))]
+fn reflection_3(a: Vector3) -> Option<Reflection<Vector3>>
     ensures { result ≡ reflection_3 a }
 {
+    if zero_3(a) {
+        return None;
+    }
     let x = lead(a.x, linear::norm(a));
     let v = Vector3 { x, y: a.y, z: a.z };
-    Reflection3 {
-        skip: zero_3(a),
+    Some(Reflection {
         v,
         vv: linear::dot(v, v),
-    }
+    })
 }
 
-fn reflect_3(m: Reflection3, w: Vector4) -> Vector4
+#[tactic(auto, unfolding(crate::specs::Port::reflect_3))]
+fn reflect_3(m: Option<Reflection<Vector3>>, w: Vector4) -> Vector4
     ensures { result ≡ reflect_3 m w }
 {
-    if m.skip {
-        return w;
-    }
-    let v = m.v;
-    let vv = m.vv;
-    let factor = 2.0 * linear::dot(v, lower(w)) / vv;
-    Vector4 {
-        x: w.x,
-        y: w.y - v.x * factor,
-        z: w.z - v.y * factor,
-        w: w.w - v.z * factor,
+    match m {
+        None => w,
+        Some(Reflection { v, vv }) => {
+            let factor = 2.0 * linear::dot(v, lower(w)) / vv;
+            Vector4 {
+                x: w.x,
+                y: w.y - v.x * factor,
+                z: w.z - v.y * factor,
+                w: w.w - v.z * factor,
+            }
+        }
     }
 }
 
 // The column x, y, z, w of the identity, by both reflections.
-fn both(m: Reflection4, n: Reflection3, x: f64, y: f64, z: f64, w: f64) -> Vector4
+fn both(
+    m: Option<Reflection<Vector4>>,
+    n: Option<Reflection<Vector3>>,
+    x: f64,
+    y: f64,
+    z: f64,
+    w: f64,
+) -> Vector4
     ensures { result ≡ both m n (x ∷ y ∷ z ∷ w ∷ []) }
 {
     reflect_3(n, reflect_4(m, Vector4 { x, y, z, w }))
 }
 
 // The columns of Q: a, b, c and d are those of Q transposed, what the identity becomes.
-fn columns(m: Reflection4, n: Reflection3) -> Columns4
+fn columns(m: Option<Reflection<Vector4>>, n: Option<Reflection<Vector3>>) -> Columns4
     ensures { result ≡ columns m n }
 {
     let a = both(m, n, 1.0, 0.0, 0.0, 0.0);

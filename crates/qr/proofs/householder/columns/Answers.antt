@@ -4,12 +4,13 @@ use mathlib.Core.List.{[], ◌∷◌}
 use Rattle.float.specs.Num.{nought, one}
 use Rattle.qr.specs.Port.{vector_4, both, columns}
 use Rattle.qr.specs.declared.Vector4.{Vector4}
-use Rattle.qr.specs.declared.householder.Reflection4.{Reflection4}
-use Rattle.qr.specs.declared.householder.Reflection3.{Reflection3}
+use Rattle.std.specs.Prelude.{Option}
+use Rattle.linear.specs.declared.vector.Vector3.{Vector3}
+use Rattle.qr.specs.declared.householder.Reflection.{Reflection}
 use Rattle.qr.specs.declared.householder.Columns4.{Columns4}
 use Rattle.qr.proofs.householder.columns.Goals as goal
 
-met : (m : Reflection4) (n : Reflection3) {a b c d q0 q1 q2 q3 : Vector4}
+met : (m : Option (Reflection Vector4)) (n : Option (Reflection Vector3)) {a b c d q0 q1 q2 q3 : Vector4}
     → a ≡ both m n (one ∷ nought ∷ nought ∷ nought ∷ [])
     → b ≡ both m n (nought ∷ one ∷ nought ∷ nought ∷ [])
     → c ≡ both m n (nought ∷ nought ∷ one ∷ nought ∷ [])

@@ -5,13 +5,13 @@ use Rattle.qr.specs.Qr.{qr}
 use Rattle.qr.specs.Port.{lower, reflection_4, reflection_3, reflect_4, reflect_3, columns, factors}
 use Rattle.qr.specs.declared.Vector4.{Vector4}
 use Rattle.qr.specs.declared.QrFactors.{QrFactors}
-use Rattle.qr.specs.declared.householder.Reflection4.{Reflection4}
-use Rattle.qr.specs.declared.householder.Reflection3.{Reflection3}
+use Rattle.std.specs.Prelude.{Option}
+use Rattle.qr.specs.declared.householder.Reflection.{Reflection}
 use Rattle.qr.specs.declared.householder.Columns4.{Columns4}
 use Rattle.qr.proofs.Steps.{steps}
 use Rattle.qr.proofs.householder.qr.Goals as goal
 
-met : (a0 a1 : Vector4) {m : Reflection4} {n : Reflection3} {r0 r1 s1 : Vector4} {part : Vector3} {q : Columns4} {r : QrFactors}
+met : (a0 a1 : Vector4) {m : Option (Reflection Vector4)} {n : Option (Reflection Vector3)} {r0 r1 s1 : Vector4} {part : Vector3} {q : Columns4} {r : QrFactors}
     → m ≡ reflection_4 a0
     → r0 ≡ reflect_4 m a0
     → r1 ≡ reflect_4 m a1

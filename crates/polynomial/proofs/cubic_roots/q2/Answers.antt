@@ -1,8 +1,0 @@
--- The calls' equations, joined.
-use lib.Ieee.{of_int, of_bits}
-use Rattle.polynomial.specs.Cubic.{q2_of}
-use Rattle.polynomial.proofs.cubic_roots.q2.Goals as goal
-
-pub returns : goal.returns
-unfolding q2_of of_int of_bits
-returns c = cc

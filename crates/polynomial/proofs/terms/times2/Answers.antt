@@ -1,5 +1,0 @@
--- The calls' equations, joined.
-use Rattle.polynomial.proofs.terms.times2.Goals as goal
-
-pub returns : goal.returns
-returns c = cc
