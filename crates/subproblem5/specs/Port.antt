@@ -1,6 +1,6 @@
 -- What the private functions of src/ give, for their contracts and proofs: no definition cites this file. The port computes what does not depend on h once for each
--- circle, takes the test on norms by their squares, and keeps lists in slots. That this makes the definitions is proved in proofs/Cut.antt and proofs/InSlots.antt.
-use Rattle.std.specs.Prelude.{◌+◌, Bool, cond, List, [], ◌∷◌, ◌++◌, map, Float, length, set}
+-- circle, and takes the test on norms by their squares. That this makes the definitions is proved in proofs/Cut.antt.
+use Rattle.std.specs.Prelude.{Bool, cond, List, [], ◌∷◌, ◌++◌, map, Float}
 use Rattle.std.specs.Float.Ieee.{lt, neg}
 use Rattle.float.specs.Num.{◌⊖◌, ◌⊗◌, nought, one}
 use Rattle.float.specs.Number.{abs}
@@ -9,10 +9,7 @@ use Rattle.float.specs.Root.{sqrt}
 use Rattle.linear.specs.Vector.{dot, norm_squared, ◌+ᵛ◌, ◌-ᵛ◌, scaleᵛ}
 use Rattle.linear.specs.Matrix.{apply, outer}
 use Rattle.linear.specs.declared.vector.Vector3.{Vector3}
-use Rattle.solutionset.specs.Slots.{padded}
-use Rattle.solutionset.specs.TripleSet4.{none}
-use Rattle.solutionset.specs.declared.triples.Triple.{Triple}
-use Rattle.solutionset.specs.declared.triples.TripleSlots4.{TripleSlots4}
+use Rattle.solutionset.specs.declared.Triple.{Triple}
 use Rattle.polynomial.specs.declared.Vector2.{Vector2}
 use Rattle.norms.specs.Norms.{tolerance}
 use Rattle.subproblems.specs.Columns.{columns}
@@ -20,7 +17,6 @@ use Rattle.subproblems.specs.Subproblem1.{subproblem1}
 use Rattle.triple_sort.specs.declared.Ordered.{Ordered}
 use Rattle.subproblem5.specs.Reduced.{with_ordering, solution_of}
 use Rattle.subproblem5.specs.Subproblem5.{◌+²◌, ◌·²◌, scale², over², norm_squared², times, transpose_times, j_transpose_times}
-use Rattle.subproblem5.specs.declared.Candidates.{Candidates}
 use Rattle.subproblem5.specs.declared.Circle.{Circle}
 use Rattle.subproblem5.specs.declared.Point.{Point}
 use Rattle.subproblem5.specs.declared.Points.{Points}
@@ -83,14 +79,6 @@ at_root c1 c3 k2 h =
     let hk2 = scaleᵛ k2 h in
     cond (lt (sq c1 h) nought) []
     (cond (lt (sq c3 h) nought) [] (of_points k2 (points c1 h (sq c1 h) hk2) (points c3 h (sq c3 h) hk2)))
-
--- one more after those that stand in the slots, where the test holds; and a list of at most sixteen in slots. An unused one holds zeros
-abbrev pub pushed : TripleSlots4 → Bool → Triple → TripleSlots4
-pushed found test t =
-    cond test (record { slots = set found.slots found.count t; count = found.count + 1 }) found
-
-abbrev pub in_sixteen : List Triple → Candidates
-in_sixteen l = record { slots = padded 16 none l; count = length l }
 
 -- ---- of reduced_solutionset: a solution with the ordering value 0.0, and the loop over such
 abbrev pub unordered : Triple → Ordered

@@ -2,9 +2,9 @@
 -- "subproblem5 has up to 16 candidates; over four, they are sorted and thinned by gap as in reduced_solutionset. The second sort compares the ordering value first, then the triple." (document 01)
 use Rattle.std.specs.Prelude.{cond, List, [], ◌∷◌, map, leb, Float, length, take}
 use Rattle.float.specs.Num.{◌⊖◌, ◌⊗◌, ◌⊘◌, one, infinity}
-use Rattle.solutionset.specs.TripleSet4.{from_vec}
-use Rattle.solutionset.specs.declared.triples.Triple.{Triple}
-use Rattle.solutionset.specs.declared.triples.TripleSet4.{TripleSet4}
+use Rattle.solutionset.specs.SolutionSet4.{from_vec}
+use Rattle.solutionset.specs.declared.Triple.{Triple}
+use Rattle.solutionset.specs.declared.set4.SolutionSet4.{SolutionSet4}
 use Rattle.triple_sort.specs.Sort.{triple_above, ordered_above, sort}
 use Rattle.triple_sort.specs.declared.Ordered.{Ordered}
 
@@ -18,7 +18,7 @@ with_ordering last (solution ∷ solutions) =
 abbrev pub solution_of : Ordered → Triple
 solution_of o = o.solution
 
-unfoldable pub reduced_solutionset : List Triple → TripleSet4
+unfoldable pub reduced_solutionset : List Triple → SolutionSet4 Triple
 unfolding with_ordering
 reduced_solutionset solutions =
     cond (leb (length solutions) 4) (from_vec solutions)

@@ -10,11 +10,11 @@ use Rattle.float.specs.Root.{sqrt}
 use Rattle.linear.specs.Vector.{dot, norm, ◌+ᵛ◌, ◌-ᵛ◌, scaleᵛ}
 use Rattle.linear.specs.Matrix.{apply, outer}
 use Rattle.linear.specs.declared.vector.Vector3.{Vector3}
-use Rattle.solutionset.specs.declared.triples.Triple.{Triple}
-use Rattle.solutionset.specs.declared.triples.TripleSet4.{TripleSet4}
+use Rattle.solutionset.specs.declared.Triple.{Triple}
+use Rattle.solutionset.specs.declared.set4.SolutionSet4.{SolutionSet4}
 use Rattle.polynomial.specs.Convolution.{vec_self_convolve_2, vec_self_convolve_3, vec_convolve_3, cone_polynomials}
 use Rattle.polynomial.specs.Quartic.{solve_quartic_roots}
-use Rattle.polynomial.specs.Roots.{roots, real_parts, real_quartic}
+use Rattle.polynomial.specs.Roots.{real_parts, real_quartic}
 use Rattle.polynomial.specs.declared.Cone.{Cone}
 use Rattle.polynomial.specs.declared.Vector2.{Vector2}
 use Rattle.polynomial.specs.declared.Vector5.{Vector5}
@@ -95,7 +95,7 @@ eqn_real cone-1 cone-3 =
 -- all_roots, .filter(|c| c.im.abs() < EPSILON).map(|c| c.re)
 unfoldable pub h_vec : Cone → Cone → List Float
 unfolding eqn_real
-h_vec cone-1 cone-3 = real_parts epsilon (roots (solve_quartic_roots (real_quartic (eqn_real cone-1 cone-3))))
+h_vec cone-1 cone-3 = real_parts epsilon (solve_quartic_roots (real_quartic (eqn_real cone-1 cone-3)))
 
 -- signs_1.iter().zip(signs_3.iter())
 abbrev pub signs : List (Float × Float)
@@ -156,7 +156,7 @@ module _ (p0 p1 p2 p3 k1 k2 k3 : Vector3) where
     of_root = cond (lt sq1 nought) [] (cond (lt sq3 nought) [] (flat_map of_signs signs))
 
   -- "subproblem5 has up to 16 candidates; over four, they are sorted and thinned by gap as in reduced_solutionset." (document 01)
-  unfoldable pub subproblem5 : TripleSet4
+  unfoldable pub subproblem5 : SolutionSet4 Triple
   unfolding h_vec j_transpose_times
   subproblem5 =
       let cone-1 = cone_polynomials p0 k1 p1 p1_s k2 in

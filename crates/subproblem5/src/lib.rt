@@ -8,7 +8,6 @@ mod sp5;
 use linear::Vector3;
 use polynomial::Vector2;
 pub use reduced::reduced_solutionset;
-use solutionset::Triple;
 pub use sp5::subproblem5;
 use subproblems::Columns;
 
@@ -37,11 +36,4 @@ pub struct Point {
 pub struct Points {
     pub plus: Point,
     pub minus: Point,
-}
-
-// The candidates of subproblem 5. An unused slot holds zeros.
-#[derive(Clone, Copy)]
-pub struct Candidates {
-    pub slots: [Triple; 16],
-    pub count: usize,
 }

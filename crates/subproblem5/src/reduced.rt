@@ -1,89 +1,64 @@
 // The choice among more than four candidates of subproblem 5.
-ghost use Rattle.std.specs.Prelude.{◌≡◌, map, ◌≤◌, take};
+ghost use Rattle.std.specs.Prelude.{◌≡◌, map, ◌≤◌, length, take};
 ghost use Rattle.float.specs.Num.{infinity};
-ghost use Rattle.solutionset.specs.TripleSet4.{from_vec};
-ghost use Rattle.triple_sort.specs.Port.{at_front};
+ghost use Rattle.solutionset.specs.SolutionSet4.{from_vec};
 ghost use Rattle.subproblem5.specs.Port.{unordered, with_gaps};
 ghost use Rattle.subproblem5.specs.Reduced.{solution_of, reduced_solutionset};
 
-use solutionset::{Triple, TripleSet4};
+use arrayvec::ArrayVec;
+use solutionset::{SolutionSet4, Triple};
 use triple_sort::{Ordered, sort};
 
-// The first n solutions, with one ordering value for all: as such they sort by the triple alone.
-fn unordered(solutions: [Triple; 16], n: usize) -> [Ordered; 16]
-    requires { n ≤ 16 }
-    ensures { take n result ≡ map unordered (take n solutions) }
+// The solutions with one ordering value for all: as such they sort by the triple alone.
+fn unordered(solutions: &ArrayVec<Triple, 16>) -> ArrayVec<Ordered, 16>
+    ensures { result.items ≡ map unordered solutions.now.items }
 {
-    let none = Triple {
-        first: 0.0,
-        second: 0.0,
-        third: 0.0,
-    };
-    let empty = Ordered {
-        ordering: 0.0,
-        solution: none,
-    };
-    let mut t = [empty; 16];
-    let mut i: usize = 0;
-    while i < n {
-        let solution = solutions[i];
-        t[i] = Ordered {
+    let mut ordered = ArrayVec::new();
+    for solution in solutions.iter() {
+        ordered.push(Ordered {
             ordering: 0.0,
-            solution,
-        };
-        i += 1;
+            solution: *solution,
+        });
     }
-    t
+    ordered
 }
 
-// The first n with their ordering values: the nearer to the one before, the higher.
-fn with_ordering(given: [Ordered; 16], n: usize) -> [Ordered; 16]
-    requires { n ≤ 16 }
-    ensures { result ≡ at_front n (with_gaps infinity) given }
+// The ordering values: the nearer to the one before, the higher.
+fn with_ordering(t: &mut [Ordered])
+    ensures { t.new ≡ with_gaps infinity t.old }
 {
-    let mut t = given;
     let mut last = float::infinity();
-    let mut i: usize = 0;
-    while i < n {
-        let o = t[i];
-        let solution = o.solution;
+    for i in 0..t.len() {
+        let solution = t[i].solution;
         let delta = solution.first - last;
         t[i] = Ordered {
             ordering: 1.0 / (delta * delta),
             solution,
         };
         last = solution.first;
-        i += 1;
     }
-    t
 }
 
-fn first_four(t: [Ordered; 16]) -> TripleSet4
-    ensures { result ≡ from_vec (take 4 (map solution_of t)) }
+fn first_four(t: &[Ordered]) -> SolutionSet4<Triple>
+    requires { 4 ≤ length t.now }
+    ensures { result ≡ from_vec (take 4 (map solution_of t.now)) }
 {
-    let a = t[0];
-    let b = t[1];
-    let c = t[2];
-    let d = t[3];
-    let s0 = a.solution;
-    let s1 = b.solution;
-    let s2 = c.solution;
-    let s3 = d.solution;
-    TripleSet4::Four(s0, s1, s2, s3)
+    match t {
+        [a, b, c, d, ..] => SolutionSet4::Four(a.solution, b.solution, c.solution, d.solution),
+        _ => unreachable!(),
+    }
 }
 
 // Up to four solutions as they came; of more, the four that are furthest from the one before them.
-pub fn reduced_solutionset(solutions: [Triple; 16], n: usize) -> TripleSet4
-    requires { n ≤ 16 }
-    ensures { result ≡ reduced_solutionset (take n solutions) }
+pub fn reduced_solutionset(solutions: &ArrayVec<Triple, 16>) -> SolutionSet4<Triple>
+    ensures { result ≡ reduced_solutionset solutions.now.items }
 {
-    if n <= 4 {
-        let s0 = solutions[0];
-        let s1 = solutions[1];
-        let s2 = solutions[2];
-        let s3 = solutions[3];
-        return TripleSet4::from_slots([s0, s1, s2, s3], n);
+    if solutions.len() <= 4 {
+        return SolutionSet4::from_vec(solutions);
     }
-    let sorted = sort(unordered(solutions, n), n);
-    first_four(sort(with_ordering(sorted, n), n))
+    let mut ordered = unordered(solutions);
+    sort(&mut ordered);
+    with_ordering(&mut ordered);
+    sort(&mut ordered);
+    first_four(&ordered)
 }

@@ -6,9 +6,9 @@ use Rattle.float.specs.Num.{◌⊕◌, ◌⊖◌, ◌⊗◌}
 use Rattle.float.specs.Arctangent.{atan2}
 use Rattle.linear.specs.Vector.{dot}
 use Rattle.linear.specs.declared.vector.Vector3.{Vector3}
-use Rattle.solutionset.specs.PairSet4.{get_all, from_vec}
-use Rattle.solutionset.specs.declared.pairs.Pair.{Pair}
-use Rattle.solutionset.specs.declared.pairs.PairSet4.{PairSet4}
+use Rattle.solutionset.specs.SolutionSet4.{get_all, from_vec}
+use Rattle.solutionset.specs.declared.Pair.{Pair}
+use Rattle.solutionset.specs.declared.set4.SolutionSet4.{SolutionSet4}
 use Rattle.qr.specs.Qr.{qr}
 use Rattle.polynomial.specs.Triangular.{solve_lower_triangular_system_2x2}
 use Rattle.ellipse.specs.Ellipse.{transpose_2, solve_two_ellipse_numeric}
@@ -49,7 +49,7 @@ plane a0 a1 b =
     }
 
 -- xi_i: where both (sin, cos) pairs are of length 1
-unfoldable pub unit_points : Plane → PairSet4
+unfoldable pub unit_points : Plane → SolutionSet4 Pair
 unit_points s =
     let m = s.x_min in
     let n1 = s.x_null_1 in
@@ -71,14 +71,14 @@ theta s xi =
     let x3 = m.w ⊕ n1.w ⊗ xi.first ⊕ n2.w ⊗ xi.second in
     record { first = atan2 x0 x1; second = atan2 x2 x3 }
 
-abbrev pub thetas : Plane → PairSet4 → PairSet4
+abbrev pub thetas : Plane → SolutionSet4 Pair → SolutionSet4 Pair
 thetas s xi = from_vec (map (theta s) (get_all xi))
 
 -- one of four vectors. (There is none with another number.)
 abbrev pub at : List Vector3 → ℕ → Vector3
 at l i = get_or l i (record { x = nan; y = nan; z = nan })
 
-unfoldable pub subproblem6 : List Vector3 → List Vector3 → List Vector3 → Float → Float → PairSet4
+unfoldable pub subproblem6 : List Vector3 → List Vector3 → List Vector3 → Float → Float → SolutionSet4 Pair
 unfolding row entry plane unit_points theta
 subproblem6 h k p d1 d2 =
     let a0 = row (at h 0) (at k 0) (at p 0) (at h 1) (at k 1) (at p 1) in

@@ -5,11 +5,12 @@ ghost use Rattle.subproblem6.specs.Subproblem6.{row, entry, plane, unit_points, 
 use crate::Plane;
 use linear::Vector3;
 use polynomial::{Matrix2, Vector2};
-use qr::Vector4;
-use solutionset::{Pair, PairSet4};
+use qr::{QrFactors, Vector4};
+use solutionset::{Pair, SolutionSet4};
 use subproblems::shared::{along, columns};
 
 // A row of the system's matrix.
+#[tactic(auto, unfolding(crate::specs::Subproblem6::row))]
 fn row(hi: Vector3, ki: Vector3, pi: Vector3, hj: Vector3, kj: Vector3, pj: Vector3) -> Vector4
     ensures { result ≡ row hi ki pi hj kj pj }
 {
@@ -24,6 +25,7 @@ fn row(hi: Vector3, ki: Vector3, pi: Vector3, hj: Vector3, kj: Vector3, pj: Vect
 }
 
 // An entry of its right side.
+#[tactic(auto, unfolding(crate::specs::Subproblem6::entry))]
 fn entry(
     d: f64,
     hi: Vector3,
@@ -39,15 +41,17 @@ fn entry(
 }
 
 // The solutions of the two equations in four unknowns.
+#[tactic(auto, unfolding(crate::specs::Subproblem6::plane))]
 fn plane(a0: Vector4, a1: Vector4, b: Vector2) -> Plane
     ensures { result ≡ plane a0 a1 b }
 {
-    let f = qr::qr(a0, a1);
-    let q0 = f.q0;
-    let q1 = f.q1;
-    let x_null_1 = f.q2;
-    let x_null_2 = f.q3;
-    let r = f.r;
+    let QrFactors {
+        q0,
+        q1,
+        q2: x_null_1,
+        q3: x_null_2,
+        r,
+    } = qr::qr(a0, a1);
     let l = Matrix2 {
         m00: r.m00,
         m01: r.m10,
@@ -69,7 +73,8 @@ fn plane(a0: Vector4, a1: Vector4, b: Vector2) -> Plane
 }
 
 // The solutions that are two pairs of a sine and a cosine, by their places in the plane.
-fn unit_points(s: Plane) -> PairSet4
+#[tactic(auto, unfolding(crate::specs::Subproblem6::unit_points))]
+fn unit_points(s: Plane) -> SolutionSet4<Pair>
     ensures { result ≡ unit_points s }
 {
     let m = s.x_min;
@@ -93,6 +98,7 @@ fn unit_points(s: Plane) -> PairSet4
 }
 
 // The two angles of a solution.
+#[tactic(auto, unfolding(crate::specs::Subproblem6::theta))]
 fn theta(s: Plane, xi: Pair) -> Pair
     ensures { result ≡ theta s xi }
 {
@@ -109,40 +115,27 @@ fn theta(s: Plane, xi: Pair) -> Pair
     }
 }
 
-fn thetas(s: Plane, xi: PairSet4) -> PairSet4
+fn thetas(s: Plane, xi: SolutionSet4<Pair>) -> SolutionSet4<Pair>
     ensures { result ≡ thetas s xi }
 {
-    match xi {
-        PairSet4::Zero => PairSet4::Zero,
-        PairSet4::One(a) => PairSet4::One(theta(s, a)),
-        PairSet4::Two(a, b) => PairSet4::Two(theta(s, a), theta(s, b)),
-        PairSet4::Three(a, b, c) => PairSet4::Three(theta(s, a), theta(s, b), theta(s, c)),
-        PairSet4::Four(a, b, c, d) => PairSet4::Four(
-            theta(s, a),
-            theta(s, b),
-            theta(s, c),
-            theta(s, d),
-        ),
-    }
+    xi.map(|pair| theta(s, pair))
 }
 
 // The angles that turn p1 and p3 by the first, p2 and p4 by the second, so that both sums of
 // products with h are as given.
-pub fn subproblem6(h: [Vector3; 4], k: [Vector3; 4], p: [Vector3; 4], d1: f64, d2: f64) -> PairSet4
+#[tactic(auto, unfolding(crate::specs::Subproblem6::subproblem6))]
+pub fn subproblem6(
+    h: [Vector3; 4],
+    k: [Vector3; 4],
+    p: [Vector3; 4],
+    d1: f64,
+    d2: f64,
+) -> SolutionSet4<Pair>
     ensures { result ≡ subproblem6 h k p d1 d2 }
 {
-    let h0 = h[0];
-    let h1 = h[1];
-    let h2 = h[2];
-    let h3 = h[3];
-    let k0 = k[0];
-    let k1 = k[1];
-    let k2 = k[2];
-    let k3 = k[3];
-    let p0 = p[0];
-    let p1 = p[1];
-    let p2 = p[2];
-    let p3 = p[3];
+    let [h0, h1, h2, h3] = h;
+    let [k0, k1, k2, k3] = k;
+    let [p0, p1, p2, p3] = p;
     let a0 = row(h0, k0, p0, h1, k1, p1);
     let a1 = row(h2, k2, p2, h3, k3, p3);
     let b = Vector2 {

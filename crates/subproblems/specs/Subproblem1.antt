@@ -27,11 +27,11 @@ unfoldable pub subproblem1_is_ls : Vector3 → Vector3 → Vector3 → Float →
 subproblem1_is_ls p1 p2 k tolerance =
     lt tolerance (abs (norm p1 ⊖ norm p2)) || lt tolerance (abs (dot k p1 ⊖ dot k p2))
 
-unfoldable pub subproblem1_within : Vector3 → Vector3 → Vector3 → Float → Solved1
+unfoldable pub subproblem1_within : Vector3 → Vector3 → Vector3 → Float → Solved1 Float
 unfolding subproblem1_theta subproblem1_is_ls
 subproblem1_within p1 p2 k tolerance =
     record { theta = subproblem1_theta p1 p2 k; is_ls = subproblem1_is_ls p1 p2 k tolerance }
 
-unfoldable pub subproblem1 : Vector3 → Vector3 → Vector3 → Solved1
+unfoldable pub subproblem1 : Vector3 → Vector3 → Vector3 → Solved1 Float
 unfolding subproblem1_within
 subproblem1 p1 p2 k = subproblem1_within p1 p2 k tolerance

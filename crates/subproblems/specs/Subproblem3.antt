@@ -9,7 +9,7 @@ use Rattle.float.specs.Root.{sqrt}
 use Rattle.linear.specs.Vector.{dot, norm_squared, ◌-ᵛ◌, scaleᵛ, overᵛ}
 use Rattle.linear.specs.Matrix.{apply, outer}
 use Rattle.linear.specs.declared.vector.Vector3.{Vector3}
-use Rattle.solutionset.specs.declared.SolutionSet2.TheVariants.{One}
+use Rattle.solutionset.specs.declared.set2.SolutionSet2.TheVariants.{One}
 use Rattle.subproblems.specs.Columns.{columns}
 use Rattle.subproblems.specs.Subproblem4.{either_side}
 use Rattle.subproblems.specs.declared.Solved2.{Solved2}
@@ -18,7 +18,7 @@ use Rattle.subproblems.specs.declared.Solved2.{Solved2}
 unfoldable pub subproblem3_b : Vector3 → Vector3 → Vector3 → Vector3 → Float → Float
 subproblem3_b p1 p2 k kxp d = d ⊗ d ⊖ norm_squared (p2 -ᵛ apply (outer k k) p1) ⊖ norm_squared kxp
 
-unfoldable pub subproblem3 : Vector3 → Vector3 → Vector3 → Float → Solved2
+unfoldable pub subproblem3 : Vector3 → Vector3 → Vector3 → Float → Solved2 Float
 unfolding subproblem3_b
 subproblem3 p1 p2 k d =
     let a_1 = columns k p1 in

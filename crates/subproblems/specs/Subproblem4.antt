@@ -8,17 +8,17 @@ use Rattle.float.specs.Arctangent.{atan2}
 use Rattle.float.specs.Root.{sqrt}
 use Rattle.linear.specs.Vector.{dot}
 use Rattle.linear.specs.declared.vector.Vector3.{Vector3}
-use Rattle.solutionset.specs.declared.SolutionSet2.{SolutionSet2}
-use Rattle.solutionset.specs.declared.SolutionSet2.TheVariants.{One, Two}
+use Rattle.solutionset.specs.declared.set2.SolutionSet2.{SolutionSet2}
+use Rattle.solutionset.specs.declared.set2.SolutionSet2.TheVariants.{One, Two}
 use Rattle.subproblems.specs.Columns.{columns, along}
 use Rattle.subproblems.specs.declared.Solved2.{Solved2}
 
 -- sc_1 = x_ls + xi * a_perp, sc_2 = x_ls - xi * a_perp: Two(sc_1[0].atan2(sc_1[1]), sc_2[0].atan2(sc_2[1]))
-unfoldable pub either_side : Float → Float → Float → Float → Float → SolutionSet2
+unfoldable pub either_side : Float → Float → Float → Float → Float → SolutionSet2 Float
 either_side x0 x1 xi perp0 perp1 =
     Two (atan2 (x0 ⊕ xi ⊗ perp0) (x1 ⊕ xi ⊗ perp1)) (atan2 (x0 ⊖ xi ⊗ perp0) (x1 ⊖ xi ⊗ perp1))
 
-unfoldable pub subproblem4 : Vector3 → Vector3 → Vector3 → Float → Solved2
+unfoldable pub subproblem4 : Vector3 → Vector3 → Vector3 → Float → Solved2 Float
 unfolding either_side
 subproblem4 h p k d =
     let a_1 = columns k p in

@@ -10,7 +10,7 @@ mod sp3;
 mod sp4;
 
 use linear::Vector3;
-use solutionset::{PairSet2, SolutionSet2};
+use solutionset::SolutionSet2;
 pub use sp1::{subproblem1, subproblem1_is_ls, subproblem1_theta, subproblem1_within};
 pub use sp2::subproblem2;
 pub use sp3::subproblem3;
@@ -23,21 +23,17 @@ pub struct Columns {
     pub second: Vector3,
 }
 
-// An angle, and whether it is a least-squares solution. So too below.
+// An angle, or its sine and cosine, and whether it is a least-squares solution. It is the answer either
+// way, and so no Option: the flag says only how good it is. So too below.
 #[derive(Clone, Copy)]
-pub struct Solved1 {
-    pub theta: f64,
+pub struct Solved1<T> {
+    pub theta: T,
     pub is_ls: bool,
 }
 
+// A set of angles, of pairs, or of sines and cosines.
 #[derive(Clone, Copy)]
-pub struct Solved2 {
-    pub set: SolutionSet2,
-    pub is_ls: bool,
-}
-
-#[derive(Clone, Copy)]
-pub struct SolvedPairs2 {
-    pub set: PairSet2,
+pub struct Solved2<T> {
+    pub set: SolutionSet2<T>,
     pub is_ls: bool,
 }

@@ -12,7 +12,7 @@ pub fn columns(k: Vector3, p: Vector3) -> Columns
     let kxp = linear::cross(k, p);
     Columns {
         first: kxp,
-        second: linear::neg(linear::cross(k, kxp)),
+        second: -linear::cross(k, kxp),
     }
 }
 
@@ -21,5 +21,5 @@ pub fn along(h: Vector3, k: Vector3, p: Vector3) -> f64
     ensures { result ≡ along h k p }
 {
     let s = linear::dot(h, k);
-    linear::dot(linear::scale(k, s), p)
+    linear::dot(k * s, p)
 }

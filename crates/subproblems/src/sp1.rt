@@ -8,6 +8,7 @@ use linear::Vector3;
 use norms::norms_differ;
 
 // The angle that turns p1 about k to p2, or nearest to it.
+#[tactic(auto, unfolding(crate::specs::Subproblem1::subproblem1_theta))]
 pub fn subproblem1_theta(p1: Vector3, p2: Vector3, k: Vector3) -> f64
     ensures { result ≡ subproblem1_theta p1 p2 k }
 {
@@ -18,21 +19,19 @@ pub fn subproblem1_theta(p1: Vector3, p2: Vector3, k: Vector3) -> f64
 }
 
 // Whether no angle turns p1 to p2: they differ in length, or in their height along k.
+#[tactic(auto, unfolding(crate::specs::Subproblem1::subproblem1_is_ls, linear::specs::Vector::norm))]
 pub fn subproblem1_is_ls(p1: Vector3, p2: Vector3, k: Vector3, tolerance: f64) -> bool
     ensures { result ≡ subproblem1_is_ls p1 p2 k tolerance }
 {
-    if norms_differ(
+    norms_differ(
         linear::norm_squared(p1),
         linear::norm_squared(p2),
         tolerance,
-    ) {
-        return true;
-    }
-    let along_k = float::abs(linear::dot(k, p1) - linear::dot(k, p2));
-    along_k > tolerance
+    ) || float::abs(linear::dot(k, p1) - linear::dot(k, p2)) > tolerance
 }
 
-pub fn subproblem1_within(p1: Vector3, p2: Vector3, k: Vector3, tolerance: f64) -> Solved1
+#[tactic(auto, unfolding(crate::specs::Subproblem1::subproblem1_within))]
+pub fn subproblem1_within(p1: Vector3, p2: Vector3, k: Vector3, tolerance: f64) -> Solved1<f64>
     ensures { result ≡ subproblem1_within p1 p2 k tolerance }
 {
     Solved1 {
@@ -41,7 +40,8 @@ pub fn subproblem1_within(p1: Vector3, p2: Vector3, k: Vector3, tolerance: f64) 
     }
 }
 
-pub fn subproblem1(p1: Vector3, p2: Vector3, k: Vector3) -> Solved1
+#[tactic(auto, unfolding(crate::specs::Subproblem1::subproblem1))]
+pub fn subproblem1(p1: Vector3, p2: Vector3, k: Vector3) -> Solved1<f64>
     ensures { result ≡ subproblem1 p1 p2 k }
 {
     subproblem1_within(p1, p2, k, 1e-6)

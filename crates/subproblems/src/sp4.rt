@@ -8,7 +8,8 @@ use linear::Vector3;
 use solutionset::SolutionSet2;
 
 // The angles of the points xi to either side of the nearest one.
-pub fn either_side(x0: f64, x1: f64, xi: f64, perp0: f64, perp1: f64) -> SolutionSet2
+#[tactic(auto, unfolding(crate::specs::Subproblem4::either_side))]
+pub fn either_side(x0: f64, x1: f64, xi: f64, perp0: f64, perp1: f64) -> SolutionSet2<f64>
     ensures { result ≡ either_side x0 x1 xi perp0 perp1 }
 {
     let s = xi * perp0;
@@ -17,7 +18,8 @@ pub fn either_side(x0: f64, x1: f64, xi: f64, perp0: f64, perp1: f64) -> Solutio
 }
 
 // The angles that turn p about k to the plane of the points whose product with h is d.
-pub fn subproblem4(h: Vector3, p: Vector3, k: Vector3, d: f64) -> Solved2
+#[tactic(auto, using(crate::proofs::Commute::dot_comm), unfolding(crate::specs::Subproblem4::subproblem4))]
+pub fn subproblem4(h: Vector3, p: Vector3, k: Vector3, d: f64) -> Solved2<f64>
     ensures { result ≡ subproblem4 h p k d }
 {
     let a_1 = columns(k, p);

@@ -6,11 +6,11 @@ use Rattle.float.specs.Root.{sqrt}
 use Rattle.float.specs.declared.sine.SinCos.{SinCos}
 use Rattle.linear.specs.Vector.{dot, cross, norm_squared, ◌-ᵛ◌, scaleᵛ}
 use Rattle.linear.specs.declared.vector.Vector3.{Vector3}
-use Rattle.solutionset.specs.declared.SinCosSet2.TheVariants.{One, Two}
+use Rattle.solutionset.specs.declared.set2.SolutionSet2.TheVariants.{One, Two}
 use Rattle.subproblems.specs.Columns.{columns}
 use Rattle.subproblems.specs.Subproblem1.{subproblem1_is_ls, tolerance}
-use Rattle.subproblems_sc.specs.declared.SolvedSinCos.{SolvedSinCos}
-use Rattle.subproblems_sc.specs.declared.SolvedSinCos2.{SolvedSinCos2}
+use Rattle.subproblems.specs.declared.Solved1.{Solved1}
+use Rattle.subproblems.specs.declared.Solved2.{Solved2}
 
 abbrev pub sc : Float → Float → SinCos
 sc s c = record { sin = s; cos = c }
@@ -20,17 +20,17 @@ unfoldable pub unit : Float → Float → SinCos
 unit x0 x1 = let n = sqrt (x0 ⊗ x0 ⊕ x1 ⊗ x1) in cond (lt nought n) (sc (x0 ⊘ n) (x1 ⊘ n)) (sc nought one)
 
 -- "Subproblem 1 returning the (sin, cos) of `theta` instead of the angle."
-unfoldable pub subproblem1_sc : Vector3 → Vector3 → Vector3 → SolvedSinCos
+unfoldable pub subproblem1_sc : Vector3 → Vector3 → Vector3 → Solved1 SinCos
 unfolding unit subproblem1_is_ls
 subproblem1_sc p1 p2 k =
     let kxp = cross k p1 in
     let x0 = dot kxp p2 in
     -- -k.cross(&kxp).dot(p2): minus the dot
     let x1 = neg (dot (cross k kxp) p2) in
-    record { sc = unit x0 x1; is_ls = subproblem1_is_ls p1 p2 k tolerance }
+    record { theta = unit x0 x1; is_ls = subproblem1_is_ls p1 p2 k tolerance }
 
 -- "Subproblem 3 returning (sin, cos) pairs; the two roots are already unit length."
-unfoldable pub subproblem3_sc : Vector3 → Vector3 → Vector3 → Float → SolvedSinCos2
+unfoldable pub subproblem3_sc : Vector3 → Vector3 → Vector3 → Float → Solved2 SinCos
 subproblem3_sc p1 p2 k d =
     let kxp = (columns k p1).first in
     let kxkxp = (columns k p1).second in
@@ -53,7 +53,7 @@ subproblem3_sc p1 p2 k d =
     })
 
 -- "Subproblem 4 returning (sin, cos) pairs, normalised by |a|^2 which is their common norm."
-unfoldable pub subproblem4_sc : Vector3 → Vector3 → Vector3 → Float → SolvedSinCos2
+unfoldable pub subproblem4_sc : Vector3 → Vector3 → Vector3 → Float → Solved2 SinCos
 unfolding unit
 subproblem4_sc h p k d =
     let kxp = (columns k p).first in

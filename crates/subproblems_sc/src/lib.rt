@@ -6,24 +6,12 @@ ghost use Rattle.subproblems_sc.specs.SinCosForms.{unit, subproblem1_sc, subprob
 
 use float::SinCos;
 use linear::Vector3;
-use solutionset::SinCosSet2;
+use solutionset::SolutionSet2;
 use subproblems::shared::columns;
-use subproblems::subproblem1_is_ls;
-
-// A sine and cosine, and whether they are of a least-squares solution. So too below.
-#[derive(Clone, Copy)]
-pub struct SolvedSinCos {
-    pub sc: SinCos,
-    pub is_ls: bool,
-}
-
-#[derive(Clone, Copy)]
-pub struct SolvedSinCos2 {
-    pub set: SinCosSet2,
-    pub is_ls: bool,
-}
+use subproblems::{Solved1, Solved2, subproblem1_is_ls};
 
 // The direction of a point, and that of (0, 1) for one that has none.
+#[tactic(auto, unfolding(crate::specs::SinCosForms::unit))]
 fn unit(x0: f64, x1: f64) -> SinCos
     ensures { result ≡ unit x0 x1 }
 {
@@ -38,26 +26,28 @@ fn unit(x0: f64, x1: f64) -> SinCos
     }
 }
 
-pub fn subproblem1_sc(p1: Vector3, p2: Vector3, k: Vector3) -> SolvedSinCos
+#[tactic(auto, unfolding(crate::specs::SinCosForms::subproblem1_sc))]
+pub fn subproblem1_sc(p1: Vector3, p2: Vector3, k: Vector3) -> Solved1<SinCos>
     ensures { result ≡ subproblem1_sc p1 p2 k }
 {
     let kxp = linear::cross(k, p1);
     let x0 = linear::dot(kxp, p2);
     let x1 = -linear::dot(linear::cross(k, kxp), p2);
-    SolvedSinCos {
-        sc: unit(x0, x1),
+    Solved1 {
+        theta: unit(x0, x1),
         is_ls: subproblem1_is_ls(p1, p2, k, 1e-6),
     }
 }
 
-pub fn subproblem3_sc(p1: Vector3, p2: Vector3, k: Vector3, d: f64) -> SolvedSinCos2
+#[tactic(auto, unfolding(crate::specs::SinCosForms::subproblem3_sc))]
+pub fn subproblem3_sc(p1: Vector3, p2: Vector3, k: Vector3, d: f64) -> Solved2<SinCos>
     ensures { result ≡ subproblem3_sc p1 p2 k d }
 {
     let a_1 = columns(k, p1);
     let a0 = -2.0 * linear::dot(p2, a_1.first);
     let a1 = -2.0 * linear::dot(p2, a_1.second);
     let norm_a_sq = a0 * a0 + a1 * a1;
-    let q = linear::sub(p2, linear::scale(k, linear::dot(k, p1)));
+    let q = p2 - k * linear::dot(k, p1);
     let b = d * d - linear::norm_squared(q) - linear::norm_squared(a_1.first);
     let f = b / norm_a_sq;
     let x0 = a0 * f;
@@ -65,8 +55,8 @@ pub fn subproblem3_sc(p1: Vector3, p2: Vector3, k: Vector3, d: f64) -> SolvedSin
     let norm_x_sq = x0 * x0 + x1 * x1;
     if norm_x_sq > 1.0 {
         let n = float::sqrt(norm_x_sq);
-        return SolvedSinCos2 {
-            set: SinCosSet2::One(SinCos {
+        return Solved2 {
+            set: SolutionSet2::One(SinCos {
                 sin: x0 / n,
                 cos: x1 / n,
             }),
@@ -77,8 +67,8 @@ pub fn subproblem3_sc(p1: Vector3, p2: Vector3, k: Vector3, d: f64) -> SolvedSin
     let norm_a = float::sqrt(norm_a_sq);
     let s = xi * (a1 / norm_a);
     let c = xi * (-a0 / norm_a);
-    SolvedSinCos2 {
-        set: SinCosSet2::Two(
+    Solved2 {
+        set: SolutionSet2::Two(
             SinCos {
                 sin: x0 + s,
                 cos: x1 + c,
@@ -92,7 +82,8 @@ pub fn subproblem3_sc(p1: Vector3, p2: Vector3, k: Vector3, d: f64) -> SolvedSin
     }
 }
 
-pub fn subproblem4_sc(h: Vector3, p: Vector3, k: Vector3, d: f64) -> SolvedSinCos2
+#[tactic(auto, unfolding(crate::specs::SinCosForms::subproblem4_sc))]
+pub fn subproblem4_sc(h: Vector3, p: Vector3, k: Vector3, d: f64) -> Solved2<SinCos>
     ensures { result ≡ subproblem4_sc h p k d }
 {
     let a_1 = columns(k, p);
@@ -106,8 +97,8 @@ pub fn subproblem4_sc(h: Vector3, p: Vector3, k: Vector3, d: f64) -> SolvedSinCo
         let xi = float::sqrt(norm_a_2 - b * b);
         let s = xi * a1;
         let c = xi * -a0;
-        SolvedSinCos2 {
-            set: SinCosSet2::Two(
+        Solved2 {
+            set: SolutionSet2::Two(
                 SinCos {
                     sin: (x0 + s) / norm_a_2,
                     cos: (x1 + c) / norm_a_2,
@@ -120,8 +111,8 @@ pub fn subproblem4_sc(h: Vector3, p: Vector3, k: Vector3, d: f64) -> SolvedSinCo
             is_ls: false,
         }
     } else {
-        SolvedSinCos2 {
-            set: SinCosSet2::One(unit(x0, x1)),
+        Solved2 {
+            set: SolutionSet2::One(unit(x0, x1)),
             is_ls: true,
         }
     }

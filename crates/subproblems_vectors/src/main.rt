@@ -5,9 +5,20 @@
 #![tactic(auto)]
 
 use std::io;
-use std::io::{Stdin, Stdout};
 
-const FUNCTIONS: u64 = 11;
+// The functions, by their ids from 1 on.
+const NAMES: [&str; 10] = [
+    "subproblem1",
+    "subproblem2",
+    "subproblem3",
+    "subproblem4",
+    "subproblem5",
+    "subproblem6",
+    "subproblem1_sc",
+    "subproblem3_sc",
+    "subproblem4_sc",
+    "reduced_solutionset",
+];
 
 // The place of the first result.
 const RESULTS: usize = 41;
@@ -34,43 +45,8 @@ fn agrees(bytes: &[u8; 512], id: u64) -> bool {
     gives(bytes, &out)
 }
 
-// Checks one record, and answers whether there was a whole one.
-fn check(input: &mut Stdin, tally: &mut [u64; 64]) -> bool {
-    let mut bytes = [0u8; 512];
-    if !cases::next(input, &mut bytes, tally) {
-        return false;
-    }
-    let id = cases::word(&bytes, 0);
-    let ok = agrees(&bytes, id);
-    cases::count(tally, FUNCTIONS, id, ok);
-    true
-}
-
-// Input of any length: no run uses up the turns.
-fn check_all(input: &mut Stdin, tally: &mut [u64; 64]) {
-    for _ in 0..u64::MAX {
-        if !check(input, tally) {
-            return;
-        }
-    }
-}
-
-fn report(out: &Stdout, tally: &[u64; 64]) -> io::Result<()> {
-    cases::line(out, b"subproblem1", tally, 1)?;
-    cases::line(out, b"subproblem2", tally, 2)?;
-    cases::line(out, b"subproblem3", tally, 3)?;
-    cases::line(out, b"subproblem4", tally, 4)?;
-    cases::line(out, b"subproblem5", tally, 5)?;
-    cases::line(out, b"subproblem6", tally, 6)?;
-    cases::line(out, b"subproblem1_sc", tally, 7)?;
-    cases::line(out, b"subproblem3_sc", tally, 8)?;
-    cases::line(out, b"subproblem4_sc", tally, 9)?;
-    cases::line(out, b"reduced_solutionset", tally, 10)?;
-    cases::end(out, tally)
-}
-
 fn main(rt: HostRuntime) -> io::Result<()> {
-    let mut tally = [0u64; 64];
-    check_all(&mut rt.stdin(), &mut tally);
-    report(&rt.stdout(), &tally)
+    cases::run(&rt, &mut [0; 512], 1, &NAMES, |bytes, id| {
+        Some(agrees(bytes.as_array()?, id))
+    })
 }

@@ -1,12 +1,11 @@
--- The loops that sort slots in place, and what they make of the list in the first n slots.
-use Prim.Native.Nat.{ℕ, zero, suc, ◌-◌, ◌≤◌}
+-- The loops that sort a list in place, and what they make of it.
+use Prim.Native.Nat.{ℕ, zero, suc, ◌-◌}
 use native.Mathlib.Omega.{arith}
 use mathlib.Core.Path.{◌≡◌, refl, ap, ◌∙◌}
 use mathlib.Core.Bool.{Bool, cond}
-use mathlib.Core.List.{List, [], ◌∷◌, ◌++◌, map}
-use lib.ListN.{length, get_or, set, take, drop, length-append, length-drop, length-map}
-use lib.Seq.{length-take-le, take_at, drop_at}
-use Rattle.triple_sort.specs.Port.{at_front, in_order}
+use mathlib.Core.List.{List, [], ◌∷◌, map}
+use lib.ListN.{length, get_or, set, length-map}
+use Rattle.triple_sort.specs.Port.{in_order}
 use Rattle.triple_sort.specs.Sort.{carry, pass, passes, sort}
 use Rattle.scalar.proofs.Order.{by_test}
 
@@ -32,20 +31,20 @@ module _ {A : Type 0} (above : A → A → Bool) (outside : A) where
   pass_after zero i x t = refl
   pass_after (suc k) i x t = rw (exchange_after i x t) (pass_after k (suc i) x (exchange_at i t))
 
-  pass_carries : (k : ℕ) (a : A) (l : List A) → k ≤ length l → pass_from k 0 (a ∷ l) ≡ carry above a (take k l) ++ drop k l
+  pass_carries : (k : ℕ) (a : A) (l : List A) → k ≡ length l → pass_from k 0 (a ∷ l) ≡ carry above a l
   unfolding pass_from carry exchange_at
-  pass_carries zero a l h = refl
+  pass_carries zero a [] h = refl
   pass_carries (suc k) a [] h = absurd (omega arith)
+  pass_carries zero a (b ∷ l) h = absurd (omega arith)
   pass_carries (suc k) a (b ∷ l) h =
       by_test (above a b)
       (λ e. let i = pass_carries k a l (omega arith) in let j = pass_after k 0 b (a ∷ l) in simp e (j ∙ ap (λ (m : List A). b ∷ m) i))
       (λ e. let i = pass_carries k b l (omega arith) in let j = pass_after k 0 a (b ∷ l) in simp e (j ∙ ap (λ (m : List A). a ∷ m) i))
 
-  pub pass_is : (n : ℕ) (t : List A) → n ≤ length t → pass_from (n - 1) 0 t ≡ at_front n (pass above) t
+  pub pass_is : (t : List A) → pass_from (length t - 1) 0 t ≡ pass above t
   unfolding pass pass_from
-  pass_is zero t h = refl
-  pass_is (suc n) [] h = absurd (omega arith)
-  pass_is (suc n) (a ∷ t) h = let e : suc n - 1 ≡ n = omega arith in rw e (pass_carries n a t (omega arith))
+  pass_is [] = refl
+  pass_is (a ∷ t) = let e : suc (length t) - 1 ≡ length t = omega arith in rw e (pass_carries (length t) a t refl)
 
 -- ---- lengths
 module _ {A : Type 0} (above : A → A → Bool) where
@@ -67,24 +66,6 @@ module _ {A : Type 0} (above : A → A → Bool) where
   pub length_sort : (l : List A) → length (in_order above l) ≡ length l
   unfolding sort
   length_sort l = length_passes (length l - 1) l
-
--- ---- work on the first n slots
-module _ {A : Type 0} (n : ℕ) (t : List A) (h : n ≤ length t) where
-  pub front_of : (f : List A → List A) → length (f (take n t)) ≡ length (take n t) → take n (at_front n f t) ≡ f (take n t)
-  front_of f e = take_at (f (take n t)) (drop n t) n (e ∙ length-take-le n t h)
-
-  pub back_of : (f : List A → List A) → length (f (take n t)) ≡ length (take n t) → drop n (at_front n f t) ≡ drop n t
-  back_of f e = drop_at (f (take n t)) (drop n t) n (e ∙ length-take-le n t h)
-
-  pub length_front_of : (f : List A → List A) → length (f (take n t)) ≡ length (take n t) → length (at_front n f t) ≡ length t
-  length_front_of f e =
-      length-append (f (take n t)) (drop n t)
-      ∙ (let l = length-take-le n t h in let d = length-drop n t in omega (arith, e))
-
-  -- a pass, and then k more
-  pub pass_more : (above : A → A → Bool) (k : ℕ) → at_front n (passes above k) (at_front n (pass above) t) ≡ at_front n (passes above (suc k)) t
-  unfolding passes
-  pass_more above k = let e = length_pass above (take n t) in rw (front_of (pass above) e, back_of (pass above) e)
 
 -- ---- a sort by what f keeps of a comparison
 module _ {A B : Type 0} (f : B → A) (above : A → A → Bool) (under : B → B → Bool) (same : (a b : B) → above (f a) (f b) ≡ under a b) where

@@ -6,7 +6,7 @@ use mathlib.Core.Path.{◌≡◌, refl, sym, ap, subst, ◌∙◌}
 use mathlib.Core.Bool.{Bool, true, false, cond, true≢false}
 use mathlib.Core.List.{List, [], ◌∷◌, ◌++◌, append-nil}
 use lib.ListN.{length}
-use Rattle.solutionset.specs.declared.triples.Triple.{Triple}
+use Rattle.solutionset.specs.declared.Triple.{Triple}
 use Rattle.triple_sort.specs.Sort.{triple_above, ordered_above, carry, pass, passes, sort}
 use Rattle.triple_sort.specs.Sorted.{Orders, Every, Sorted, Permuted, none, after, exchange, then, those, level, SortSorts, FirstSortSorts, SecondSortSorts}
 use Rattle.triple_sort.specs.declared.Ordered.{Ordered}

@@ -5,7 +5,7 @@ use Prim.Native.Nat.{ℕ, zero, suc, ◌-◌}
 use Rattle.std.specs.Prelude.{Bool, true, false, cond, not, Float, length}
 use mathlib.Core.List.{List, [], ◌∷◌}
 use Rattle.std.specs.Float.Ieee.{lt, is_nan}
-use Rattle.solutionset.specs.declared.triples.Triple.{Triple}
+use Rattle.solutionset.specs.declared.Triple.{Triple}
 use Rattle.triple_sort.specs.declared.Ordered.{Ordered}
 
 -- whether the first compares above the second

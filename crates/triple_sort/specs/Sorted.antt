@@ -1,7 +1,7 @@
 -- What `sort` of Sort.antt is for, stated for every list and every comparison that orders its values: its result is in order, and it is the list
 -- permuted in such a way that equals keep their order. The proof is in proofs/Sorting.antt.
 use Rattle.std.specs.Prelude.{◌≡◌, Bool, true, false, cond, not, ◌&&◌, List, [], ◌∷◌}
-use Rattle.solutionset.specs.declared.triples.Triple.{Triple}
+use Rattle.solutionset.specs.declared.Triple.{Triple}
 use Rattle.triple_sort.specs.Sort.{triple_above, ordered_above, sort}
 use Rattle.triple_sort.specs.declared.Ordered.{Ordered}
 

@@ -1,27 +1,29 @@
 // The sort of subproblem 5's candidates.
 #![tactic(auto)]
 
-ghost use Rattle.std.specs.Prelude.{◌≡◌, ◌≤◌};
-ghost use Rattle.triple_sort.specs.Port.{at_front, in_order};
+ghost use Rattle.std.specs.Prelude.{◌≡◌};
+ghost use Rattle.triple_sort.specs.Port.{in_order};
 ghost use Rattle.triple_sort.specs.Sort.{number_above, triple_above, ordered_above, pass};
 
 use solutionset::Triple;
 
 // A candidate of subproblem 5 with the number that decides whether it is kept.
-#[derive(Clone, Copy)]
+#[derive(Clone, Copy, Default)]
 pub struct Ordered {
     pub ordering: f64,
     pub solution: Triple,
 }
 
 // Whether a compares above b: a NaN is above every number and equal to a NaN.
+#[tactic(auto, unfolding(crate::specs::Sort::number_above))]
 fn number_above(a: f64, b: f64) -> bool
     ensures { result ≡ number_above a b }
 {
-    if a == a { b < a } else { b == b }
+    if a.is_nan() { !b.is_nan() } else { b < a }
 }
 
 // By the first unequal number.
+#[tactic(auto, unfolding(crate::specs::Sort::triple_above))]
 fn triple_above(a: Triple, b: Triple) -> bool
     ensures { result ≡ triple_above a b }
 {
@@ -41,6 +43,7 @@ fn triple_above(a: Triple, b: Triple) -> bool
 }
 
 // By the ordering value first.
+#[tactic(auto, unfolding(crate::specs::Sort::ordered_above))]
 fn ordered_above(a: Ordered, b: Ordered) -> bool
     ensures { result ≡ ordered_above a b }
 {
@@ -53,36 +56,22 @@ fn ordered_above(a: Ordered, b: Ordered) -> bool
     triple_above(a.solution, b.solution)
 }
 
-// A pass over the first n: two neighbours are exchanged exactly if the earlier is above the later.
-fn pass(given: [Ordered; 16], n: usize) -> [Ordered; 16]
-    requires { n ≤ 16 }
-    ensures { result ≡ at_front n (pass ordered_above) given }
+// A pass: two neighbours are exchanged exactly if the earlier is above the later.
+fn pass(t: &mut [Ordered])
+    ensures { t.new ≡ pass ordered_above t.old }
 {
-    let mut t = given;
-    let mut j: usize = 1;
-    while j < n {
-        let a = t[j - 1];
-        let b = t[j];
-        if ordered_above(a, b) {
-            t[j - 1] = b;
-            t[j] = a;
+    for j in 1..t.len() {
+        if ordered_above(t[j - 1], t[j]) {
+            t.swap(j - 1, j);
         }
-        j += 1;
     }
-    t
 }
 
-// The first n in order, equals in the order in which they came.
-pub fn sort(given: [Ordered; 16], n: usize) -> [Ordered; 16]
-    requires { n ≤ 16 }
-    ensures { result ≡ at_front n (in_order ordered_above) given }
+// In order, equals in the order in which they came.
+pub fn sort(t: &mut [Ordered])
+    ensures { t.new ≡ in_order ordered_above t.old }
 {
-    let mut t = given;
-    let mut k: usize = 1;
-    while k < n {
-        let u = pass(t, n);
-        t = u;
-        k += 1;
+    for _k in 1..t.len() {
+        pass(t);
     }
-    t
 }

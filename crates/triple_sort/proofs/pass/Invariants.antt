@@ -1,8 +1,9 @@
 -- The invariant: what is left of the pass gives what all of it gives.
-use Prim.Native.Nat.{ℕ, ◌-◌, ◌≤◌}
+use Prim.Native.Nat.{ℕ, ◌-◌}
 use mathlib.Core.Path.{◌≡◌}
 use mathlib.Core.List.{List}
 use lib.Ieee.{nan}
+use lib.ListN.{length}
 use Rattle.triple_sort.specs.Sort.{ordered_above}
 use Rattle.triple_sort.specs.declared.Ordered.{Ordered}
 use Rattle.triple_sort.proofs.Passes.{pass_from}
@@ -15,7 +16,5 @@ abbrev pub from : ℕ → ℕ → List Ordered → List Ordered
 from k i t = pass_from ordered_above outside k i t
 
 abbrev pub invariant-loop-j : goal.invariant-loop-j
-invariant-loop-j l = (1 ≤ l.j) × (from (l.n - l.j) (l.j - 1) l.t ≡ from (l.n - 1) 0 l.initial.t)
-
-abbrev pub decreases-loop-j : goal.decreases-loop-j
-decreases-loop-j l = l.n - l.j
+invariant-loop-j l =
+    from (length l.initial.t - l.j) (l.j - 1) l.t ≡ from (length l.initial.t - 1) 0 l.initial.t

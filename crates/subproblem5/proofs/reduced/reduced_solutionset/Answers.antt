@@ -1,42 +1,30 @@
--- Up to four as they came. Over four, the first n slots hold at each step the list that the definition has there.
-use Prim.Native.Nat.{ℕ, suc, ◌≤◌, ◌<◌}
+-- Up to four as they came. Over four, the list is at each step what the definition has there.
+use Prim.Native.Nat.{◌≤◌, ◌<◌}
 use native.Mathlib.Omega.{arith}
 use mathlib.Core.Path.{◌≡◌, refl, ap, ◌∙◌}
 use mathlib.Core.Bool.{false}
 use mathlib.Core.List.{List, [], ◌∷◌, map}
 use lib.Dec.{leb}
-use lib.Ieee.{Float, nan, is_nan, lt, of_bits}
-use lib.ListN.{length, get_or, take, length-take, length-map}
-use lib.Seq.{length-take-le, take-take}
+use lib.Ieee.{is_nan, lt, of_bits}
+use lib.ListN.{length, take, drop}
+use lib.Seq.{take_at}
+use Rattle.std.specs.List.{refill}
 use borrow.Author.Tests.{le-leb, lt-leb}
 use Rattle.float.specs.Num.{infinity}
-use Rattle.solutionset.specs.TripleSet4.{from_vec}
-use Rattle.solutionset.specs.declared.triples.Triple.{Triple}
-use Rattle.solutionset.specs.declared.triples.TripleSet4.{TripleSet4}
-use Rattle.triple_sort.specs.Port.{at_front, in_order}
+use Rattle.solutionset.specs.SolutionSet4.{from_vec}
+use Rattle.solutionset.specs.declared.Triple.{Triple}
+use Rattle.solutionset.specs.declared.set4.SolutionSet4.{SolutionSet4}
+use Rattle.triple_sort.specs.Port.{in_order}
 use Rattle.triple_sort.specs.Sort.{number_above, triple_above, ordered_above}
 use Rattle.subproblem5.specs.Port.{unordered, with_gaps}
-use Rattle.subproblem5.specs.Reduced.{with_ordering, solution_of, reduced_solutionset}
+use Rattle.subproblem5.specs.Reduced.{solution_of, reduced_solutionset}
 use Rattle.triple_sort.specs.declared.Ordered.{Ordered}
-use Rattle.triple_sort.proofs.Passes.{length_sort, front_of, length_front_of, sort_map}
-use Rattle.subproblem5.proofs.InSlots.{map_take, first_four}
+use Rattle.triple_sort.proofs.Passes.{sort_map}
 use Rattle.subproblem5.proofs.reduced.reduced_solutionset.Goals as goal
 
-abbrev outside : Triple
-outside = record { first = nan; second = nan; third = nan }
-
-few : (n : ℕ) (l : List Triple) {r : TripleSet4}
-    → n ≤ 4
-    → length l ≡ 16
-    → r ≡ from_vec (take n (get_or l 0 outside ∷ get_or l 1 outside ∷ get_or l 2 outside ∷ get_or l 3 outside ∷ []))
-    → r ≡ reduced_solutionset (take n l)
+few : (l : List Triple) {m : List Triple} {r : SolutionSet4 Triple} → length l ≤ 4 → m ≡ l → r ≡ from_vec m → r ≡ reduced_solutionset l
 unfolding reduced_solutionset
-few n l h k e =
-    let m : length (take n l) ≡ n = length-take-le n l (omega arith) in
-    let t = le-leb n 4 h in
-    let f = first_four outside l k in
-    let g = take-take n 4 l h in
-    cc
+few l h e e' = let t = le-leb (length l) 4 h in cc
 
 -- ---- over four
 -- of equal ordering values, the triples decide
@@ -48,42 +36,38 @@ solutions-of : (l : List Triple) → map solution_of (map unordered l) ≡ l
 solutions-of [] = refl
 solutions-of (a ∷ l) = ap (λ (m : List Triple). a ∷ m) (solutions-of l)
 
-length-ordering : (last : Float) (l : List Triple) → length (with_ordering last l) ≡ length l
-unfolding with_ordering
-length-ordering last [] = refl
-length-ordering last (a ∷ l) = ap suc (length-ordering a.first l)
-
-many : (n : ℕ) (l : List Triple) (t1 : List Ordered) {t2 t3 t4 : List Ordered} {r : TripleSet4}
-    → n ≤ 16
-    → length l ≡ 16
-    → 4 < n
-    → take n t1 ≡ map unordered (take n l)
-    → t2 ≡ at_front n (in_order ordered_above) t1
-    → t3 ≡ at_front n (with_gaps infinity) t2
-    → t4 ≡ at_front n (in_order ordered_above) t3
-    → r ≡ from_vec (take 4 (map solution_of t4))
-    → r ≡ reduced_solutionset (take n l)
+many : (l : List Triple) {d1 t1 d2 t2 d3 t3 d4 : List Ordered} {r : SolutionSet4 Triple}
+    → 4 < length l
+    → d1 ≡ map unordered l
+    → t1 ≡ in_order ordered_above d1
+    → d2 ≡ t1
+    → t2 ≡ with_gaps infinity d2
+    → d3 ≡ t2
+    → t3 ≡ in_order ordered_above d3
+    → d4 ≡ t3
+    → r ≡ from_vec (take 4 (map solution_of d4))
+    → r ≡ reduced_solutionset l
 unfolding reduced_solutionset
-many n l t1 {t2} {t3} {t4} f k h e1 e2 e3 e4 e =
-    let m : length (take n l) ≡ n = length-take-le n l (omega arith) in
-    let t : leb (length (take n l)) 4 ≡ false = lt-leb (length (take n l)) 4 (omega arith) in
-    let long1 : n ≤ length t1 = omega (arith, simp (length-take, length-map) at (ap length e1)) in
-    let s1 = length_sort ordered_above (take n t1) in
-    let long2 : n ≤ length t2 = omega (arith, ap length e2, length_front_of n t1 long1 (in_order ordered_above) s1) in
-    let s2 = length-ordering infinity (map solution_of (take n t2)) ∙ length-map (take n t2) solution_of in
-    let long3 : n ≤ length t3 = omega (arith, ap length e3, length_front_of n t2 long2 (with_gaps infinity) s2) in
-    let s3 = length_sort ordered_above (take n t3) in
-    let f2 = front_of n t1 long1 (in_order ordered_above) s1 in
-    let f3 = front_of n t2 long2 (with_gaps infinity) s2 in
-    let f4 = front_of n t3 long3 (in_order ordered_above) s3 in
-    let g2 = sort_map unordered ordered_above triple_above same (take n l) in
-    let g3 = solutions-of (in_order triple_above (take n l)) in
-    let g4 = take-take 4 n (map solution_of t4) (omega arith) in
-    let g5 = map_take solution_of n t4 in
+many l h e1 e2 e3 e4 e5 e6 e7 e =
+    let t : leb (length l) 4 ≡ false = lt-leb (length l) 4 h in
+    let g2 = sort_map unordered ordered_above triple_above same l in
+    let g3 = solutions-of (in_order triple_above l) in
     cc
 
-pub returns-then-n-le4 : goal.returns-then-n-le4
-returns-then-n-le4 c = search few
+-- a slice of a vector's items, written with as many
+written : {A : Type 0} {x d : List A} (t : List A) → d ≡ x → length t ≡ length d → refill (length x) x t ≡ t
+written {x = x} t e h = take_at t (drop (length t) x) (length x) (h ∙ ap length e)
+
+pub returns-then-len-le4 : goal.returns-then-len-le4
+returns-then-len-le4 c = few _ (omega (arith, c.len.ensures.value)) c.deref.ensures.0 c.from_vec.ensures
 
 pub returns : goal.returns
-returns c = search many
+returns c =
+    let v1 = c.deref_mut.ensures.value in
+    let v2 = c.deref_mut-2.ensures.value in
+    let v3 = c.deref_mut-3.ensures.value in
+    let w1 = written c.sort.new.t v1 c.sort.auto.t in
+    let w2 = written c.with_ordering.new.t v2 c.with_ordering.auto.t in
+    let w3 = written c.sort-2.new.t v3 c.sort-2.auto.t in
+    many _ (omega (arith, c.len.ensures.value)) (v1 ∙ c.unordered-ordered.ensures) c.sort.ensures (v2 ∙ w1) c.with_ordering.ensures
+    (v3 ∙ w2) c.sort-2.ensures (c.deref-2.ensures.0 ∙ w3) c.first_four.ensures

@@ -7,7 +7,6 @@ use mathlib.Core.List.{List, [], ◌∷◌}
 use lib.Ieee.{Float}
 use lib.ListN.{length, get_or, set}
 use Rattle.float.specs.Num.{infinity}
-use Rattle.triple_sort.specs.Port.{at_front}
 use Rattle.subproblem5.specs.Port.{with_gaps}
 use Rattle.subproblem5.specs.Reduced.{with_ordering}
 use Rattle.triple_sort.specs.declared.Ordered.{Ordered}
@@ -20,14 +19,13 @@ from-after zero i last x t = refl
 from-after (suc k) i last x t =
     let s = (get_or t i outside).solution in from-after k (suc i) s.first x (set t i (ordered last s))
 
-from_is : (k : ℕ) (last : Float) (t : List Ordered) → k ≤ length t → from k 0 last t ≡ at_front k (with_gaps last) t
+from_is : (last : Float) (t : List Ordered) → from (length t) 0 last t ≡ with_gaps last t
 unfolding from with_ordering
-from_is zero last t h = refl
-from_is (suc k) last [] h = absurd (omega arith)
-from_is (suc k) last (x ∷ t) h =
+from_is last [] = refl
+from_is last (x ∷ t) =
     let s = x.solution in
-    from-after k 0 s.first (ordered last s) t
-    ∙ ap (λ (l : List Ordered). ordered last s ∷ l) (from_is k s.first t (omega arith))
+    from-after (length t) 0 s.first (ordered last s) t
+    ∙ ap (λ (l : List Ordered). ordered last s ∷ l) (from_is s.first t)
 
 begin : (n : ℕ) (t : List Ordered) {last : Float} → last ≡ infinity → from (n - 0) 0 last t ≡ from n 0 infinity t
 begin n t e = let z : n - 0 ≡ n = omega arith in cc
@@ -43,17 +41,20 @@ again n i last t t₀ h inv =
     let k = rw more at inv in
     simp add-one k
 
-end : (n i : ℕ) (last : Float) (t t₀ : List Ordered) → n ≤ 16 → length t₀ ≡ 16 → n ≤ i → from (n - i) i last t ≡ from n 0 infinity t₀ → t ≡ at_front n (with_gaps infinity) t₀
+end : (i : ℕ) (last : Float) (t t₀ : List Ordered)
+    → length t₀ ≤ i
+    → from (length t₀ - i) i last t ≡ from (length t₀) 0 infinity t₀
+    → t ≡ with_gaps infinity t₀
 unfolding from
-end n i last t t₀ f l h inv =
-    let over : n - i ≡ 0 = omega arith in
-    (rw over at inv) ∙ from_is n infinity t₀ (omega arith)
+end i last t t₀ h inv =
+    let over : length t₀ - i ≡ 0 = omega arith in
+    (rw over at inv) ∙ from_is infinity t₀
 
 pub loop-i-init : goal.loop-i-init
-loop-i-init c = (omega arith, search begin)
+loop-i-init c = search begin
 
 pub loop-i-preserved : goal.loop-i-preserved
-loop-i-preserved c = (omega arith, search again)
+loop-i-preserved c = search again
 
 pub returns : goal.returns
 returns c = search end

@@ -1,11 +1,11 @@
 -- The invariant: what is left to fill gives what all gives.
-use Prim.Native.Nat.{ℕ, zero, suc, ◌-◌, ◌≤◌}
+use Prim.Native.Nat.{ℕ, zero, suc, ◌-◌}
 use mathlib.Core.Path.{◌≡◌}
 use mathlib.Core.List.{List}
 use lib.Ieee.{Float, nan}
-use lib.ListN.{get_or, set}
+use lib.ListN.{length, get_or, set}
 use Rattle.float.specs.Num.{◌⊖◌, ◌⊗◌, ◌⊘◌, one, infinity}
-use Rattle.solutionset.specs.declared.triples.Triple.{Triple}
+use Rattle.solutionset.specs.declared.Triple.{Triple}
 use Rattle.triple_sort.specs.declared.Ordered.{Ordered}
 use Rattle.subproblem5.proofs.reduced.with_ordering.Given as goal
 
@@ -21,7 +21,4 @@ from zero i last t = t
 from (suc k) i last t = let s = (get_or t i outside).solution in from k (suc i) s.first (set t i (ordered last s))
 
 abbrev pub invariant-loop-i : goal.invariant-loop-i
-invariant-loop-i l = (l.i ≤ l.n) × (from (l.n - l.i) l.i l.last l.t ≡ from l.n 0 infinity l.initial.t)
-
-abbrev pub decreases-loop-i : goal.decreases-loop-i
-decreases-loop-i l = l.n - l.i
+invariant-loop-i l = from (length l.initial.t - l.i) l.i l.last l.t ≡ from (length l.initial.t) 0 infinity l.initial.t
