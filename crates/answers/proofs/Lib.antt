@@ -5,3 +5,4 @@ pub mod Laws
 pub mod Held
 pub mod Steps
 pub mod Kept
+pub mod InTurn

@@ -34,7 +34,7 @@ two_parts : {w : ℕ} → Width w → (m n : ℕ) → w * (m + n) ≡ w * m + w 
 two_parts six_wide m n = omega arith
 two_parts seven_wide m n = omega arith
 
-within : {w : ℕ} → Width w → (m n k : ℕ) → k ≤ min (m / w) n → w * k ≤ m
+pub within : {w : ℕ} → Width w → (m n k : ℕ) → k ≤ min (m / w) n → w * k ≤ m
 within six_wide m n k h = omega arith
 within seven_wide m n k h = omega arith
 
@@ -84,7 +84,7 @@ module _ (form : Form) (good : Good form) where
   flagged_long qs a f = simp (length-append, length-map, length-drop) (omega (arith, fitting_few qs a f))
 
   -- after k answers there is room for k fewer
-  room_less : (k : ℕ) (a b : List Float) (f g : List ℕ) → length b ≡ length a → length g ≡ length f → room_of form (drop (form.wide * k) b) (drop k g) ≡ room_of form a f - k
+  pub room_less : (k : ℕ) (a b : List Float) (f g : List ℕ) → length b ≡ length a → length g ≡ length f → room_of form (drop (form.wide * k) b) (drop k g) ≡ room_of form a f - k
   unfolding room_of
   room_less k a b f g e e' = simp (length-drop, e, e') (rooms_less good.width (length a) (length f) k)
 

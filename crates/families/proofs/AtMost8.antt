@@ -1,4 +1,4 @@
--- Document 01: "Families 1 to 5 give at most 8 answers". So it is for every arm, pose and tolerance; the number that a family's function returns is the length of its list.
+-- Document 01: "Families 1 to 5 give at most 8 answers". So it is for every arm, pose and tolerance, and the list that a family's function returns has room for as many.
 use Prim.Native.Nat.{◌≤◌}
 use lib.Ieee.{Float}
 use lib.ListN.{length}

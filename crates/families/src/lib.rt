@@ -1,6 +1,6 @@
-// The families of arms (inverse_kinematics/mod.rs). Each writes its answers to the two lists that
-// the caller lends: the first that fit both, in the Rust's order. It gives the number of all.
-// `tolerance` is what subproblem1 flags by: 1e-6 in the Rust.
+// The families of arms (inverse_kinematics/mod.rs). Each gives its answers as a list, in the Rust's
+// order: at most eight. `answers::write` takes them to lists that a caller lends. `tolerance` is what
+// subproblem1 flags by: 1e-6 in the Rust.
 // Each family is a crate of its own, so that a change or a must-fail edit of one proves that one
 // alone. This crate names them together, and has what holds of them all.
 #![tactic(auto)]

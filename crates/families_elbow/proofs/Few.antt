@@ -6,9 +6,9 @@ use lib.Ieee.{Float}
 use lib.ListN.{length}
 use Rattle.linear.specs.declared.vector.Vector3.{Vector3}
 use Rattle.kinematics.specs.declared.Kinematics.{Kinematics}
-use Rattle.answers.proofs.Steps.{at_most}
+use Rattle.families_shared.proofs.Gathered.{at_most}
 use Rattle.families_elbow.specs.Elbow.{theta3, theta14, elbow_q3, elbow}
-use Rattle.families_shared.proofs.Few.{few2}
+use Rattle.solutionset.specs.SolutionSet2.{get_all, few}
 
 pub elbow_q3_few : (kin : Kinematics) (tolerance : Float) (d_inner : Vector3) (theta14 q1 q5 q6 : Float) (is-ls : Bool) (q3 : Float)
     → length (elbow_q3 kin tolerance d_inner theta14 q1 q5 q6 is-ls q3) ≤ 1
@@ -20,4 +20,4 @@ pub elbow_few : (kin : Kinematics) (tolerance : Float) (d_inner : Vector3) (thet
 unfolding elbow
 elbow_few kin tolerance d_inner theta14 q1 q5 q6 is-ls =
     let t = theta3 kin d_inner in
-    at_most _ 1 2 _ (elbow_q3_few kin tolerance d_inner theta14 q1 q5 q6 (is-ls || t.is_ls)) (few2 t.set)
+    at_most (elbow_q3 kin tolerance d_inner theta14 q1 q5 q6 (is-ls || t.is_ls)) 1 2 (get_all t.set) (elbow_q3_few kin tolerance d_inner theta14 q1 q5 q6 (is-ls || t.is_ls)) (few t.set)

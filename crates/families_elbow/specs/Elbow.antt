@@ -1,7 +1,6 @@
 -- What three_parallel_two_intersecting and three_parallel have in common: theta14 = q2 + q3 + q4, and the end, where q1, q5 and q6 are found
 -- and for each q3 there is a q2 and a q4.
-use Rattle.std.specs.Prelude.{Bool, ◌||◌, Float}
-use mathlib.Core.List.{List, [], ◌∷◌, flat_map}
+use Rattle.std.specs.Prelude.{Bool, ◌||◌, List, [], ◌∷◌, flat_map, Float}
 use Rattle.float.specs.Num.{◌⊖◌}
 use Rattle.float.specs.Wrap.{wrap_to_pi}
 use Rattle.linear.specs.Matrix.{Matrix, product, apply, transpose, rot}
@@ -16,12 +15,12 @@ use Rattle.kinematics.specs.declared.Kinematics.{Kinematics}
 use Rattle.answers.specs.declared.Answer.{Answer}
 
 -- (theta14, theta14_is_ls)
-unfoldable pub theta14 : Matrix → Kinematics → Float → Matrix → Matrix → Solved1
+unfoldable pub theta14 : Matrix → Kinematics → Float → Matrix → Matrix → Solved1 Float
 theta14 r_06 kin tolerance r-01 r-45 =
     subproblem1_within (apply r-45 kin.h6) (apply (product (transpose r-01) r_06) kin.h6) kin.h2 tolerance
 
 -- (theta3, theta3_is_ls), with d = d_inner.norm()
-unfoldable pub theta3 : Kinematics → Vector3 → Solved2
+unfoldable pub theta3 : Kinematics → Vector3 → Solved2 Float
 theta3 kin d_inner = subproblem3 (negᵛ kin.p3) kin.p2 kin.h2 (norm d_inner)
 
 -- what `for q3 in theta3.get_all()` pushes for one q3. is-ls joins every flag but that of q2

@@ -11,10 +11,15 @@
 ghost use Rattle.std.specs.Prelude.{◌≤◌};
 
 use std::io;
-use std::io::{Stdin, Stdout};
 
-// One more than the last family.
-const FAMILIES: u64 = 6;
+// The families, by their ids from 1 on.
+const NAMES: [&str; 5] = [
+    "spherical_two_parallel",
+    "spherical_two_intersecting",
+    "spherical",
+    "three_parallel_two_intersecting",
+    "three_parallel",
+];
 
 const ARM: usize = 2;
 
@@ -51,17 +56,12 @@ fn pose(bytes: &[u8; 896]) -> [f64; 12] {
 fn given_angles(bytes: &[u8; 896], at: usize, angles: &[f64; 54], i: usize) -> bool
     requires { (at ≤ 106) × (i ≤ 48) }
 {
-    let is_1 = cases::gives(bytes, at, angles[i]);
-    let is_2 = cases::gives(bytes, at + 1, angles[i + 1]);
-    let is_3 = cases::gives(bytes, at + 2, angles[i + 2]);
-    let is_4 = cases::gives(bytes, at + 3, angles[i + 3]);
-    let is_5 = cases::gives(bytes, at + 4, angles[i + 4]);
-    let is_6 = cases::gives(bytes, at + 5, angles[i + 5]);
-    is_1 && is_2 && is_3 && is_4 && is_5 && is_6
-}
-
-fn wide(byte: u8) -> u64 {
-    byte as u64
+    for k in 0..6 {
+        if !cases::gives(bytes, at + k, angles[i + k]) {
+            return false;
+        }
+    }
+    true
 }
 
 // Whether answer k of the lists is the record's.
@@ -69,28 +69,16 @@ fn given(bytes: &[u8; 896], angles: &[f64; 54], flags: &[u8; 9], k: usize) -> bo
     requires { k ≤ 7 }
 {
     let at = ANSWERS + 7 * k;
-    let is_flag = cases::word(bytes, at + 6) == wide(flags[k]);
+    let is_flag = cases::word(bytes, at + 6) == u64::from(flags[k]);
     is_flag && given_angles(bytes, at, angles, 6 * k)
-}
-
-fn unwritten_angles(angles: &[f64; 54], i: usize) -> bool
-    requires { i ≤ 48 }
-{
-    let is_1 = angles[i] == NO_ANGLE;
-    let is_2 = angles[i + 1] == NO_ANGLE;
-    let is_3 = angles[i + 2] == NO_ANGLE;
-    let is_4 = angles[i + 3] == NO_ANGLE;
-    let is_5 = angles[i + 4] == NO_ANGLE;
-    let is_6 = angles[i + 5] == NO_ANGLE;
-    is_1 && is_2 && is_3 && is_4 && is_5 && is_6
 }
 
 // Whether place k of the lists is as it was.
 fn unwritten(angles: &[f64; 54], flags: &[u8; 9], k: usize) -> bool
     requires { k ≤ 8 }
 {
-    let is_flag = flags[k] == NO_FLAG;
-    is_flag && unwritten_angles(angles, 6 * k)
+    let from = 6 * k;
+    flags[k] == NO_FLAG && angles[from..from + 6].iter().all(|x| *x == NO_ANGLE)
 }
 
 // Whether place k of the lists is right, where the first n are answers.
@@ -104,20 +92,12 @@ fn right(bytes: &[u8; 896], angles: &[f64; 54], flags: &[u8; 9], n: usize, k: us
 }
 
 fn all_right(bytes: &[u8; 896], angles: &[f64; 54], flags: &[u8; 9], n: usize) -> bool {
-    let is_0 = right(bytes, angles, flags, n, 0);
-    let is_1 = right(bytes, angles, flags, n, 1);
-    let is_2 = right(bytes, angles, flags, n, 2);
-    let is_3 = right(bytes, angles, flags, n, 3);
-    let is_4 = right(bytes, angles, flags, n, 4);
-    let is_5 = right(bytes, angles, flags, n, 5);
-    let is_6 = right(bytes, angles, flags, n, 6);
-    let is_7 = right(bytes, angles, flags, n, 7);
-    let is_8 = unwritten(angles, flags, 8);
-    is_0 && is_1 && is_2 && is_3 && is_4 && is_5 && is_6 && is_7 && is_8
-}
-
-fn least(a: usize, b: usize) -> usize {
-    if a < b { a } else { b }
+    for k in 0..8 {
+        if !right(bytes, angles, flags, n, k) {
+            return false;
+        }
+    }
+    unwritten(angles, flags, 8)
 }
 
 // Solves with lists of a numbers and b bytes.
@@ -136,7 +116,7 @@ fn solved(
     let mut flags = [NO_FLAG; 9];
     let n = calls_c::family(id, arm, pose, &mut angles[0..a], &mut flags[0..b]);
     let is_n = n == count;
-    is_n && all_right(bytes, &angles, &flags, least(count, least(a / 6, b)))
+    is_n && all_right(bytes, &angles, &flags, count.min(b).min(a / 6))
 }
 
 // The lists are too short for the last answer, and the longer one is whole.
@@ -155,13 +135,6 @@ fn short(
     in_angles && in_flags
 }
 
-fn but_one(n: usize) -> usize
-    requires { n ≤ 8 }
-    ensures { result ≤ 7 }
-{
-    if n > 0 { n - 1 } else { 0 }
-}
-
 fn agrees_by(bytes: &[u8; 896], id: u64, arm: &[f64; 39], pose: &[f64; 12], n: usize) -> bool
     requires { n ≤ 8 }
 {
@@ -169,7 +142,7 @@ fn agrees_by(bytes: &[u8; 896], id: u64, arm: &[f64; 39], pose: &[f64; 12], n: u
     let exact = solved(bytes, id, arm, pose, n, 6 * n, n);
     let none = short(bytes, id, arm, pose, n, 0);
     let one = short(bytes, id, arm, pose, n, 1);
-    let last = short(bytes, id, arm, pose, n, but_one(n));
+    let last = short(bytes, id, arm, pose, n, n.saturating_sub(1));
     whole && exact && none && one && last
 }
 
@@ -183,41 +156,11 @@ fn agrees(bytes: &[u8; 896], id: u64) -> bool {
     agrees_by(bytes, id, &from, &to, count as usize)
 }
 
-// Checks one record, and answers whether there was a whole one.
-fn check(input: &mut Stdin, tally: &mut [u64; 64]) -> bool {
-    let mut bytes = [0u8; 896];
-    if !cases::next(input, &mut bytes, tally) {
-        return false;
-    }
-    let id = cases::word(&bytes, 0);
-    if id == 6 {
-        return true;
-    }
-    let ok = id > 0 && agrees(&bytes, id);
-    cases::count(tally, FAMILIES, id, ok);
-    true
-}
-
-// Input of any length: no run uses up the turns.
-fn check_all(input: &mut Stdin, tally: &mut [u64; 64]) {
-    for _ in 0..u64::MAX {
-        if !check(input, tally) {
-            return;
-        }
-    }
-}
-
-fn report(out: &Stdout, tally: &[u64; 64]) -> io::Result<()> {
-    cases::line(out, b"spherical_two_parallel", tally, 1)?;
-    cases::line(out, b"spherical_two_intersecting", tally, 2)?;
-    cases::line(out, b"spherical", tally, 3)?;
-    cases::line(out, b"three_parallel_two_intersecting", tally, 4)?;
-    cases::line(out, b"three_parallel", tally, 5)?;
-    cases::end(out, tally)
-}
-
 fn main(rt: HostRuntime) -> io::Result<()> {
-    let mut tally = [0u64; 64];
-    check_all(&mut rt.stdin(), &mut tally);
-    report(&rt.stdout(), &tally)
+    cases::run(&rt, &mut [0; 896], 1, &NAMES, |bytes, id| {
+        if id == 6 {
+            return None;
+        }
+        Some(id > 0 && agrees(bytes.as_array()?, id))
+    })
 }

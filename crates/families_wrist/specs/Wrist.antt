@@ -1,7 +1,6 @@
 -- The end of spherical_two_parallel, spherical_two_intersecting and spherical, which have it word for word: q1, q2 and q3 are found,
 -- r_36 follows, and for each q5 a q4 and a q6.
-use Rattle.std.specs.Prelude.{Bool, ◌||◌, Float}
-use mathlib.Core.List.{List, [], ◌∷◌, flat_map}
+use Rattle.std.specs.Prelude.{Bool, ◌||◌, List, [], ◌∷◌, flat_map, Float}
 use Rattle.linear.specs.Matrix.{Matrix, product, apply, row_apply, transpose, rot}
 use Rattle.linear.specs.Vector.{dot, negᵛ}
 use Rattle.solutionset.specs.SolutionSet2.{get_all}
@@ -17,7 +16,7 @@ r_36 r-0t kin q1 q2 q3 =
     product (product (product (rot (negᵛ kin.h3) q3) (rot (negᵛ kin.h2) q2)) (rot (negᵛ kin.h1) q1)) r-0t
 
 -- (t5, q5_is_ls)
-unfoldable pub t5 : Kinematics → Matrix → Solved2
+unfoldable pub t5 : Kinematics → Matrix → Solved2 Float
 t5 kin r_36 = subproblem4 kin.h4 kin.h6 kin.h5 (dot (row_apply kin.h4 r_36) kin.h6)
 
 -- what `for q5 in t5.get_all()` pushes for one q5. is-ls joins the flags of q1, q2, q3 and q5

@@ -1,8 +1,7 @@
 -- Family 1: spherical_two_parallel of inverse_kinematics/mod.rs. The answers in the Rust's order; a definition for the body of each `for`
 -- says what it pushes.
 -- The tolerance of subproblem1's flag is handed down. The Rust's kin.h.column(0) is h1 here, its kin.p.column(0) is p0.
-use Rattle.std.specs.Prelude.{Bool, ◌||◌, Float}
-use mathlib.Core.List.{List, flat_map}
+use Rattle.std.specs.Prelude.{Bool, ◌||◌, List, flat_map, Float}
 use Rattle.linear.specs.Matrix.{Matrix, apply, rot}
 use Rattle.linear.specs.Vector.{dot, norm, ◌+ᵛ◌, ◌-ᵛ◌, negᵛ}
 use Rattle.linear.specs.declared.vector.Vector3.{Vector3}
@@ -17,7 +16,7 @@ use Rattle.answers.specs.declared.Answer.{Answer}
 use Rattle.families_wrist.specs.Wrist.{r_36, wrist}
 
 -- (t1, q1_is_ls)
-unfoldable pub t1 : Matrix → Vector3 → Kinematics → Solved2
+unfoldable pub t1 : Matrix → Vector3 → Kinematics → Solved2 Float
 t1 r-0t p_0t kin =
     subproblem4 kin.h2 (p_0t -ᵛ apply r-0t kin.p6 -ᵛ kin.p0) (negᵛ kin.h1) (dot kin.h2 (kin.p1 +ᵛ kin.p2 +ᵛ kin.p3))
 
@@ -26,11 +25,11 @@ unfoldable pub p_13 : Matrix → Vector3 → Kinematics → Float → Vector3
 p_13 r-0t p_0t kin q1 = apply (rot (negᵛ kin.h1) q1) (negᵛ p_0t +ᵛ apply r-0t kin.p6 +ᵛ kin.p0) +ᵛ kin.p1
 
 -- (t3, q3_is_ls)
-unfoldable pub t3 : Kinematics → Vector3 → Solved2
+unfoldable pub t3 : Kinematics → Vector3 → Solved2 Float
 t3 kin p_13 = subproblem3 (negᵛ kin.p3) kin.p2 kin.h3 (norm p_13)
 
 -- (q2, q2_is_ls)
-unfoldable pub q2 : Kinematics → Float → Vector3 → Float → Solved1
+unfoldable pub q2 : Kinematics → Float → Vector3 → Float → Solved1 Float
 q2 kin tolerance p_13 q3 = subproblem1_within (negᵛ kin.p2 -ᵛ apply (rot kin.h3 q3) kin.p3) p_13 kin.h2 tolerance
 
 -- for q3 in t3.get_all()

@@ -1,8 +1,7 @@
 -- Family 4: three_parallel_two_intersecting of inverse_kinematics/mod.rs. The answers in the Rust's order; a definition for the body of each
 -- `for` says what it pushes.
 -- The tolerance of subproblem1's flag is handed down. The Rust's kin.h.column(0) is h1 here, its kin.p.column(0) is p0.
-use Rattle.std.specs.Prelude.{Bool, ◌||◌, Float}
-use mathlib.Core.List.{List, flat_map}
+use Rattle.std.specs.Prelude.{Bool, ◌||◌, List, flat_map, Float}
 use Rattle.linear.specs.Matrix.{Matrix, product, apply, row_apply, transpose, rot}
 use Rattle.linear.specs.Vector.{dot, ◌+ᵛ◌, ◌-ᵛ◌, negᵛ, column_sum}
 use Rattle.linear.specs.declared.vector.Vector3.{Vector3}
@@ -17,13 +16,13 @@ use Rattle.families_elbow.specs.Elbow.{theta14, elbow}
 use Rattle.families_shared.specs.Place.{p_16}
 
 -- (theta1, theta1_is_ls), with sum_p_2_5 = kin.p.fixed_columns::<4>(1).column_sum()
-unfoldable pub theta1 : Kinematics → Vector3 → Solved2
+unfoldable pub theta1 : Kinematics → Vector3 → Solved2 Float
 theta1 kin p_16 =
     let sum-p-2-5 = column_sum kin.p1 kin.p2 kin.p3 kin.p4 in
     subproblem4 kin.h2 p_16 (negᵛ kin.h1) (dot kin.h2 sum-p-2-5)
 
 -- (theta5, theta5_is_ls)
-unfoldable pub theta5 : Matrix → Kinematics → Matrix → Solved2
+unfoldable pub theta5 : Matrix → Kinematics → Matrix → Solved2 Float
 theta5 r_06 kin r-01 =
     subproblem4 kin.h2 kin.h6 kin.h5 (dot (row_apply (row_apply kin.h2 (transpose r-01)) r_06) kin.h6)
 
@@ -34,7 +33,7 @@ d_inner kin p_16 r-01 r-14 =
     apply (transpose r-01) p_16 -ᵛ kin.p1 -ᵛ apply r-14 p-45
 
 -- (q6, q6_is_ls)
-unfoldable pub q6 : Matrix → Kinematics → Float → Matrix → Matrix → Matrix → Solved1
+unfoldable pub q6 : Matrix → Kinematics → Float → Matrix → Matrix → Matrix → Solved1 Float
 q6 r_06 kin tolerance r-01 r-45 r-14 =
     let r-50 = product (product (product (transpose r-45) (transpose r-14)) (transpose r-01)) r_06 in
     subproblem1_within kin.h5 (apply r-50 kin.h5) kin.h6 tolerance

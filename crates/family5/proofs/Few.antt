@@ -5,13 +5,13 @@ use lib.Ieee.{Float}
 use lib.ListN.{length}
 use Rattle.linear.specs.Matrix.{Matrix, rot}
 use Rattle.linear.specs.declared.vector.Vector3.{Vector3}
-use Rattle.solutionset.specs.declared.pairs.Pair.{Pair}
+use Rattle.solutionset.specs.SolutionSet4.{get_all, few}
+use Rattle.solutionset.specs.declared.Pair.{Pair}
 use Rattle.kinematics.specs.declared.Kinematics.{Kinematics}
-use Rattle.answers.proofs.Steps.{at_most}
 use Rattle.families_shared.specs.Place.{p_16}
 use Rattle.families_elbow.specs.Elbow.{theta14}
 use Rattle.family5.specs.ThreeParallel as F5
-use Rattle.families_shared.proofs.Few.{few_pairs4}
+use Rattle.families_shared.proofs.Gathered.{at_most}
 use Rattle.families_elbow.proofs.Few.{elbow_few}
 
 pub f5_at_q15_few : (r_06 : Matrix) (kin : Kinematics) (tolerance : Float) (p : Vector3) (q15 : Pair)
@@ -30,4 +30,5 @@ pub three_parallel_few : (r_06 : Matrix) (p_0t : Vector3) (kin : Kinematics) (to
 unfolding F5.three_parallel
 three_parallel_few r_06 p_0t kin tolerance =
     let p = p_16 r_06 p_0t kin in
-    at_most _ 2 4 _ (f5_at_q15_few r_06 kin tolerance p) (few_pairs4 (F5.theta15 r_06 kin p))
+    let t = F5.theta15 r_06 kin p in
+    at_most (F5.at_q15 r_06 kin tolerance p) 2 4 (get_all t) (f5_at_q15_few r_06 kin tolerance p) (few t)

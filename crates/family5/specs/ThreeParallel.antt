@@ -1,15 +1,14 @@
 -- Family 5: three_parallel of inverse_kinematics/mod.rs. The answers in the Rust's order; a definition for the body of each `for` says what it
 -- pushes. subproblem6 gives no flag.
 -- The tolerance of subproblem1's flag is handed down. The Rust's kin.h.column(0) is h1 here, its kin.p.column(0) is p0.
-use Rattle.std.specs.Prelude.{◌||◌, Float}
-use mathlib.Core.List.{List, [], ◌∷◌, flat_map}
+use Rattle.std.specs.Prelude.{◌||◌, List, [], ◌∷◌, flat_map, Float}
 use Rattle.float.specs.Num.{nought}
 use Rattle.linear.specs.Matrix.{Matrix, product, apply, transpose, rot}
 use Rattle.linear.specs.Vector.{dot, ◌+ᵛ◌, ◌-ᵛ◌, negᵛ}
 use Rattle.linear.specs.declared.vector.Vector3.{Vector3}
-use Rattle.solutionset.specs.PairSet4.{get_all}
-use Rattle.solutionset.specs.declared.pairs.Pair.{Pair}
-use Rattle.solutionset.specs.declared.pairs.PairSet4.{PairSet4}
+use Rattle.solutionset.specs.SolutionSet4.{get_all}
+use Rattle.solutionset.specs.declared.Pair.{Pair}
+use Rattle.solutionset.specs.declared.set4.SolutionSet4.{SolutionSet4}
 use Rattle.subproblems.specs.Subproblem1.{subproblem1_within}
 use Rattle.subproblem6.specs.Subproblem6.{subproblem6}
 use Rattle.subproblems.specs.declared.Solved1.{Solved1}
@@ -19,7 +18,7 @@ use Rattle.families_elbow.specs.Elbow.{theta14, elbow}
 use Rattle.families_shared.specs.Place.{p_16}
 
 -- the lists of subproblem6, and d1
-unfoldable pub theta15 : Matrix → Kinematics → Vector3 → PairSet4
+unfoldable pub theta15 : Matrix → Kinematics → Vector3 → SolutionSet4 Pair
 theta15 r_06 kin p_16 =
     let h-sp = kin.h2 ∷ kin.h2 ∷ kin.h2 ∷ kin.h2 ∷ [] in
     let k-sp = negᵛ kin.h1 ∷ kin.h5 ∷ negᵛ kin.h1 ∷ kin.h5 ∷ [] in
@@ -28,7 +27,7 @@ theta15 r_06 kin p_16 =
     subproblem6 h-sp k-sp p-sp d1 nought
 
 -- (q6, q6_is_ls)
-unfoldable pub q6 : Matrix → Kinematics → Float → Matrix → Matrix → Solved1
+unfoldable pub q6 : Matrix → Kinematics → Float → Matrix → Matrix → Solved1 Float
 q6 r_06 kin tolerance r-01 r-45 =
     subproblem1_within (apply (transpose r-45) kin.h2) (apply (product (transpose r_06) r-01) kin.h2) (negᵛ kin.h6) tolerance
 

@@ -1,7 +1,7 @@
 -- The pose, and forward_kinematics of inverse_kinematics/auxiliary.rs.
 use Rattle.std.specs.Prelude.{ℕ, ◌+◌, List, Float, get_or}
 use Rattle.std.specs.Float.{nan}
-use Rattle.linear.specs.Matrix.{Matrix, row, part, array3, product, apply, identity, rot}
+use Rattle.linear.specs.Matrix.{Matrix, part, array3, product, apply, identity, rot}
 use Rattle.linear.specs.Vector.{◌+ᵛ◌}
 use Rattle.linear.specs.declared.vector.Vector3.{Vector3}
 use Rattle.kinematics.specs.Kinematics.{vector_at}
@@ -21,10 +21,10 @@ pose_place l = vector_at l 9
 
 -- the rotation r and the place p as one value, and the rotation of such a value
 abbrev pub pose : Matrix → Vector3 → Pose
-pose r p = record { row1 = row r 0; row2 = row r 1; row3 = row r 2; place = p }
+pose r p = record { rotation = r; place = p }
 
 abbrev pub rotation : Pose → Matrix
-rotation s = array3 s.row1 s.row2 s.row3
+rotation s = s.rotation
 
 -- one turn of the loop: "r *= rot(&self.h.column(i).into(), t); p += r * self.p.column(i + 1);"
 unfoldable pub joint : Pose → Vector3 → Float → Vector3 → Pose

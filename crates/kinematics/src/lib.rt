@@ -4,7 +4,7 @@
 
 ghost use Rattle.std.specs.Prelude.{◌≡◌, ◌+◌, ◌≤◌, length};
 ghost use Rattle.kinematics.specs.Kinematics.{vector_at, from_numbers};
-ghost use Rattle.kinematics.specs.Pose.{row_at, pose_rotation, pose_place, rotation, pose, joint, forward_kinematics};
+ghost use Rattle.kinematics.specs.Pose.{row_at, pose_rotation, pose_place, joint, forward_kinematics};
 
 use linear::{Matrix3, Vector3};
 
@@ -26,13 +26,10 @@ pub struct Kinematics {
     pub p6: Vector3,
 }
 
-// A rotation by its rows, and a place. (The rows are fields: a field that is an array of arrays is
-// not covered.)
+// A rotation by its rows, and a place.
 #[derive(Clone, Copy)]
 pub struct Pose {
-    pub row1: [f64; 3],
-    pub row2: [f64; 3],
-    pub row3: [f64; 3],
+    pub rotation: Matrix3,
     pub place: Vector3,
 }
 
@@ -49,6 +46,7 @@ pub fn vector_at(numbers: &[f64], i: usize) -> Vector3
 }
 
 // The arm of 39 numbers: the axes, then the offsets.
+#[tactic(auto, unfolding(crate::specs::Kinematics::from_numbers))]
 pub fn from_numbers(arm: &[f64]) -> Kinematics
     requires { length arm.now ≡ 39 }
     ensures { result ≡ from_numbers arm.now }
@@ -83,10 +81,7 @@ pub fn pose_rotation(numbers: &[f64]) -> Matrix3
     requires { length numbers.now ≡ 12 }
     ensures { result ≡ pose_rotation numbers.now }
 {
-    let row1 = row_at(numbers, 0);
-    let row2 = row_at(numbers, 3);
-    let row3 = row_at(numbers, 6);
-    [row1, row2, row3]
+    [row_at(numbers, 0), row_at(numbers, 3), row_at(numbers, 6)]
 }
 
 // Its place.
@@ -98,43 +93,25 @@ pub fn pose_place(numbers: &[f64]) -> Vector3
 }
 
 impl Pose {
-    pub fn new(r: Matrix3, p: Vector3) -> Pose
-        ensures { result ≡ pose r p }
-    {
-        let row1 = r[0];
-        let row2 = r[1];
-        let row3 = r[2];
-        Pose {
-            row1: row1,
-            row2: row2,
-            row3: row3,
-            place: p,
-        }
-    }
-
-    pub fn rotation(self) -> Matrix3
-        ensures { result ≡ rotation self }
-    {
-        let row1 = self.row1;
-        let row2 = self.row2;
-        let row3 = self.row3;
-        [row1, row2, row3]
-    }
-
     // The pose after one joint more: its axis, its angle, and the offset to the next.
+    #[tactic(auto, unfolding(crate::specs::Pose::joint))]
     fn joint(self, h: Vector3, t: f64, offset: Vector3) -> Pose
         ensures { result ≡ joint self h t offset }
     {
-        let p = self.place;
-        let r = linear::product(self.rotation(), linear::rot(h, t));
-        Pose::new(r, linear::add(p, linear::apply(r, offset)))
+        let rotation = linear::product(self.rotation, linear::rot(h, t));
+        let place = self.place + linear::apply(rotation, offset);
+        Pose { rotation, place }
     }
 }
 
+#[tactic(auto, unfolding(crate::specs::Pose::forward_kinematics))]
 pub fn forward_kinematics(kin: Kinematics, theta: [f64; 6]) -> Pose
     ensures { result ≡ forward_kinematics kin theta }
 {
-    let from = Pose::new(linear::identity(), kin.p0);
+    let from = Pose {
+        rotation: linear::identity(),
+        place: kin.p0,
+    };
     let at1 = from.joint(kin.h1, theta[0], kin.p1);
     let at2 = at1.joint(kin.h2, theta[1], kin.p2);
     let at3 = at2.joint(kin.h3, theta[2], kin.p3);

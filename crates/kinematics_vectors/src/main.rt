@@ -5,9 +5,9 @@
 #![tactic(auto)]
 
 use std::io;
-use std::io::{Stdin, Stdout};
 
-const FUNCTIONS: u64 = 1;
+// The functions, by their ids.
+const NAMES: [&str; 1] = ["forward_kinematics"];
 
 const ARM: usize = 1;
 
@@ -30,18 +30,9 @@ fn angles(bytes: &[u8; 512]) -> [f64; 6] {
 // The rotation by rows and the place, as a record has them: six words more are left zero.
 fn results(pose: &[f64; 12]) -> [u64; 18] {
     let mut out = [0u64; 18];
-    out[0] = cases::pattern(pose[0]);
-    out[1] = cases::pattern(pose[1]);
-    out[2] = cases::pattern(pose[2]);
-    out[3] = cases::pattern(pose[3]);
-    out[4] = cases::pattern(pose[4]);
-    out[5] = cases::pattern(pose[5]);
-    out[6] = cases::pattern(pose[6]);
-    out[7] = cases::pattern(pose[7]);
-    out[8] = cases::pattern(pose[8]);
-    out[9] = cases::pattern(pose[9]);
-    out[10] = cases::pattern(pose[10]);
-    out[11] = cases::pattern(pose[11]);
+    for (word, x) in out.iter_mut().zip(pose) {
+        *word = cases::pattern(*x);
+    }
     out
 }
 
@@ -53,36 +44,13 @@ fn agrees(bytes: &[u8; 512]) -> bool {
     let from = arm(bytes);
     let theta = angles(bytes);
     let mut pose = [0.0; 12];
-    let refused = forward::forward(&from, &theta, &mut pose);
+    let is_ok = forward::forward(&from, &theta, &mut pose).is_ok();
     let out = results(&pose);
-    refused == 0 && gives(bytes, &out)
-}
-
-// Checks one record, and answers whether there was a whole one.
-fn check(input: &mut Stdin, tally: &mut [u64; 64]) -> bool {
-    let mut bytes = [0u8; 512];
-    if !cases::next(input, &mut bytes, tally) {
-        return false;
-    }
-    let id = cases::word(&bytes, 0);
-    let ok = agrees(&bytes);
-    cases::count(tally, FUNCTIONS, id, ok);
-    true
-}
-
-// Input of any length: no run uses up the turns.
-fn check_all(input: &mut Stdin, tally: &mut [u64; 64]) {
-    for _ in 0..u64::MAX {
-        if !check(input, tally) {
-            return;
-        }
-    }
+    is_ok && gives(bytes, &out)
 }
 
 fn main(rt: HostRuntime) -> io::Result<()> {
-    let out = rt.stdout();
-    let mut tally = [0u64; 64];
-    check_all(&mut rt.stdin(), &mut tally);
-    cases::line(&out, b"forward_kinematics", &tally, 0)?;
-    cases::end(&out, &tally)
+    cases::run(&rt, &mut [0; 512], 0, &NAMES, |bytes, _id| {
+        Some(agrees(bytes.as_array()?))
+    })
 }

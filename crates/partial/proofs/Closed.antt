@@ -6,35 +6,14 @@ use native.Mathlib.Omega.{arith}
 use lib.Ieee.{Float}
 use Rattle.linear.specs.Matrix.{Matrix}
 use Rattle.linear.specs.declared.vector.Vector3.{Vector3}
-use Rattle.kinematics.specs.declared.Kinematics.{Kinematics}
 use Rattle.partial.specs.Partial.{turns, h_turn, p_turn, new_h, new_p, kin_new}
-use Rattle.partial.specs.Columns.{axis, offset, axes, offsets}
-use Rattle.partial.specs.declared.Axes.{Axes}
-use Rattle.partial.specs.declared.Offsets.{Offsets}
+use Rattle.partial.specs.Columns.{axis, offset}
 
 abbrev six_axes : List Float → ℕ → Matrix → List Vector3
 six_axes arm n r = axis arm n r 0 ∷ axis arm n r 1 ∷ axis arm n r 2 ∷ axis arm n r 3 ∷ axis arm n r 4 ∷ axis arm n r 5 ∷ []
 
 abbrev seven_offsets : List Float → ℕ → Matrix → List Vector3
 seven_offsets arm n r = offset arm n r 0 ∷ offset arm n r 1 ∷ offset arm n r 2 ∷ offset arm n r 3 ∷ offset arm n r 4 ∷ offset arm n r 5 ∷ offset arm n r 6 ∷ []
-
-abbrev pub of_columns : Axes → Offsets → Kinematics
-of_columns a o =
-    record {
-      h1 = a.h1;
-      h2 = a.h2;
-      h3 = a.h3;
-      h4 = a.h4;
-      h5 = a.h5;
-      h6 = a.h6;
-      p0 = o.p0;
-      p1 = o.p1;
-      p2 = o.p2;
-      p3 = o.p3;
-      p4 = o.p4;
-      p5 = o.p5;
-      p6 = o.p6;
-    }
 
 module _ (arm : List Float) (r : Matrix) where
   by_joint : (P : ℕ → Type 0) → P 0 → P 1 → P 2 → P 3 → P 4 → P 5 → P 6 → (n : ℕ) → n ≤ 6 → P n
@@ -56,6 +35,23 @@ module _ (arm : List Float) (r : Matrix) where
   new_offsets = by_joint (λ n. new_p arm n r ≡ seven_offsets arm n r) refl refl refl refl refl refl refl
 
   -- so the arm that is left is made of them
-  pub columns : (n : ℕ) → n ≤ 6 → kin_new arm n r ≡ of_columns (axes arm n r) (offsets arm n r)
-  unfolding kin_new axes offsets
+  pub columns : (n : ℕ)
+      → n ≤ 6
+      → kin_new arm n r
+      ≡ record {
+        h1 = axis arm n r 0;
+        h2 = axis arm n r 1;
+        h3 = axis arm n r 2;
+        h4 = axis arm n r 3;
+        h5 = axis arm n r 4;
+        h6 = axis arm n r 5;
+        p0 = offset arm n r 0;
+        p1 = offset arm n r 1;
+        p2 = offset arm n r 2;
+        p3 = offset arm n r 3;
+        p4 = offset arm n r 4;
+        p5 = offset arm n r 5;
+        p6 = offset arm n r 6;
+      }
+  unfolding kin_new
   columns n h = rw (new_axes n h, new_offsets n h)

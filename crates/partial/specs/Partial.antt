@@ -2,7 +2,7 @@
 -- Document 02, request 2: "45 numbers (seven axes, eight offsets)".
 use Rattle.std.specs.Prelude.{ℕ, zero, suc, ◌+◌, ◌-◌, ◌*◌, cond, List, ltb, eqb, Float, get_or, set, replicate}
 use Rattle.float.specs.Num.{nought}
-use Rattle.linear.specs.Matrix.{Matrix, row, product, apply, rot}
+use Rattle.linear.specs.Matrix.{Matrix, product, apply, rot}
 use Rattle.linear.specs.Vector.{◌+ᵛ◌}
 use Rattle.linear.specs.declared.vector.Vector3.{Vector3}
 use Rattle.kinematics.specs.Kinematics.{vector_at}
@@ -72,5 +72,4 @@ locked_rotation arm q-n n = rot (h arm n) q-n
 unfoldable pub forward_kinematics_partial : List Float → Float → ℕ → Matrix → Partial
 forward_kinematics_partial arm q-n n r-6t =
     let r-n = locked_rotation arm q-n n in
-    let r = product r-n r-6t in
-    record { kin = kin_new arm n r-n; row1 = row r 0; row2 = row r 1; row3 = row r 2 }
+    record { kin = kin_new arm n r-n; rotation = product r-n r-6t }

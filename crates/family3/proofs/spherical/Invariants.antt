@@ -1,13 +1,7 @@
--- For each q1, q2 and q3, what `at_q123` writes.
-use Prim.Native.Nat.{◌-◌}
-use Rattle.solutionset.specs.TripleSet4.{get_all}
-use Rattle.answers.proofs.Steps.{Steps}
+-- For each triple the answers of `at_q123`.
+use Rattle.families_shared.proofs.Gathered.{Gathered}
 use Rattle.family3.specs.Spherical.{at_q123}
 use Rattle.family3.proofs.spherical.Given as goal
 
-abbrev pub invariant-loop-i : goal.invariant-loop-i
-invariant-loop-i l =
-    Steps (at_q123 l.r_06 l.kin l.tolerance) (get_all l.set) l.n 2 l.initial.angles l.initial.flags l.angles l.flags l.k l.i
-
-abbrev pub decreases-loop-i : goal.decreases-loop-i
-decreases-loop-i l = l.n - l.i
+abbrev pub invariant-loop-q123 : goal.invariant-loop-q123
+invariant-loop-q123 l = Gathered (at_q123 l.r_06 l.arm.kin l.arm.tolerance) l.q123-items 2 l.q123-index l.all.items

@@ -1,13 +1,8 @@
--- For each q1, what `at_q1` writes.
-use Prim.Native.Nat.{◌-◌}
-use Rattle.solutionset.specs.SolutionSet2.{get_all}
-use Rattle.answers.proofs.Steps.{Steps}
+-- For each q1 the answers of `at_q1`.
+use Rattle.families_shared.proofs.Gathered.{Gathered}
 use Rattle.family4.specs.ThreeParallelTwoIntersecting.{at_q1}
 use Rattle.family4.proofs.three_parallel_two_intersecting.Given as goal
 
-abbrev pub invariant-loop-i : goal.invariant-loop-i
-invariant-loop-i l =
-    Steps (at_q1 l.r_06 l.kin l.tolerance l.p l.theta1_is_ls) (get_all l.set) l.n 4 l.initial.angles l.initial.flags l.angles l.flags l.k l.i
-
-abbrev pub decreases-loop-i : goal.decreases-loop-i
-decreases-loop-i l = l.n - l.i
+abbrev pub invariant-loop-q1 : goal.invariant-loop-q1
+invariant-loop-q1 l =
+    Gathered (at_q1 l.r_06 l.arm.kin l.arm.tolerance l.p l.t.is_ls) l.q1-items 4 l.q1-index l.all.items

@@ -1,5 +1,0 @@
--- The calls' equations.
-use Rattle.families_shared.proofs.any3.Goals as goal
-
-pub returns : goal.returns
-returns c = cc
