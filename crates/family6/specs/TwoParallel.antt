@@ -6,14 +6,15 @@ use Rattle.float.specs.Wrap.{wrap_to_pi}
 use Rattle.linear.specs.Matrix.{Matrix, product, apply, transpose, rot}
 use Rattle.linear.specs.Vector.{◌-ᵛ◌, negᵛ}
 use Rattle.linear.specs.declared.vector.Vector3.{Vector3}
-use Rattle.solutionset.specs.PairSet4.{at}
-use Rattle.solutionset.specs.declared.pairs.Pair as Angles
+use Rattle.solutionset.specs.SolutionSet4.{at}
+use Rattle.solutionset.specs.declared.Pair as Angles
 use Rattle.subproblems.specs.Subproblem1.{subproblem1_within}
 use Rattle.kinematics.specs.declared.Kinematics.{Kinematics}
 use Rattle.answers.specs.declared.Answer.{Answer}
 use Rattle.search_definition.specs.Found.{SearchPair, pairs}
 use Rattle.families_shared.specs.Place.{p_16}
 use Rattle.search_error.specs.Error.{t64_given_q1}
+use Rattle.family6_answers.specs.Pairs.{no_answer}
 use Rattle.search.specs.Demand.{two_parallel_search}
 
 module _ (r_06 : Matrix) (p_0t : Vector3) (kin : Kinematics) (tolerance : Float) where
@@ -43,7 +44,7 @@ module _ (r_06 : Matrix) (p_0t : Vector3) (kin : Kinematics) (tolerance : Float)
 
   -- the answer of the pair (q1, i). t64[i] is there for every pair of the search (proofs/Held.antt).
   unfoldable pub answer_of : SearchPair → Answer
-  answer_of pair = answer pair.q1 (at (t64_given_q1 kin r_06 p_0t pair.q1) pair.i)
+  answer_of pair = answer pair.q1 (at no_answer (t64_given_q1 kin r_06 p_0t pair.q1) pair.i)
 
   -- an answer for each pair of the search, in the search's order
   unfoldable pub two_parallel : ℕ → List Answer

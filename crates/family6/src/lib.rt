@@ -27,7 +27,7 @@ pub fn two_parallel(
     requires { (length qs.old ≡ 17600) × (length cs.old ≡ 17600) }
     ensures { Kept r_06 p_0t kin n result qs.new cs.new }
 {
-    search::search_1d_bracketed(Fixed::new(kin, r_06, p_0t), n, qs, cs)
+    search::search_1d_bracketed(&Fixed::new(kin, r_06, p_0t), n, qs, cs)
 }
 
 // The answer of the pair (q1, i). What does not depend on q1 is computed anew for each answer: beside the
@@ -43,5 +43,5 @@ pub fn answer_of(
     requires { i < t64_count kin r_06 p_0t q1 }
     ensures { result ≡ answer_of r_06 p_0t kin tolerance (pair q1 i) }
 {
-    family6_answers::answer_at(Fixed::new(kin, r_06, p_0t), tolerance, q1, i)
+    family6_answers::answer_at(&Fixed::new(kin, r_06, p_0t), tolerance, q1, i)
 }

@@ -1,9 +1,15 @@
 -- The pairs (q1, i) that two lists hold, angles and components.
 use Rattle.std.specs.Prelude.{List, [], ◌∷◌, ℕ, ◌<◌, Float, take}
-use Rattle.solutionset.specs.PairSet4.{size}
+use Rattle.solutionset.specs.SolutionSet4.{size}
+use Rattle.float.specs.Num.{nought}
+use Rattle.solutionset.specs.declared.Pair as Angles
 use Rattle.search_definition.specs.Found.{SearchPair}
 use Rattle.search_error.specs.Fixed.{given_q1, t64}
 use Rattle.search_error.specs.declared.Fixed.{Fixed}
+
+-- in place of subproblem 6's answer (t6, t4) where there is none
+abbrev pub no_answer : Angles.Pair
+no_answer = record { first = nought; second = nought }
 
 abbrev pub pair : Float → ℕ → SearchPair
 pair q1 i = record { q1 = q1; i = i }

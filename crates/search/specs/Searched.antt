@@ -1,30 +1,29 @@
 -- What the search leaves in the two lent lists, and what it returns.
-use Rattle.std.specs.Prelude.{cond, List, ◌++◌, map, ◌≡◌, ℕ, ◌<◌, leb, length, get_or, drop, Float}
+use Rattle.std.specs.Prelude.{cond, List, ◌++◌, map, ◌≡◌, ℕ, ◌<◌, leb, length, drop, Float}
 use Rattle.std.proofs.lemmas.List.Edits.{sets}
-use Rattle.std.specs.Float.{nan}
 use Rattle.std.specs.Float.Ieee.{neg}
 use Rattle.float.specs.Num.{◌⊕◌, ◌⊖◌, ◌⊗◌, ◌⊘◌, as_f64, pi}
 use Rattle.search_definition.specs.Found.{Out, nothing, ◌then◌}
 use Rattle.search_definition.specs.Dip.{Point}
-use Rattle.search_definition.specs.Search.{angle, of_component, search_1d_bracketed}
-use Rattle.search.specs.State.{angle_of, component_of}
+use Rattle.search_definition.specs.Search.{sample, of_component, search_1d_bracketed}
+use Rattle.search.specs.State.{points, angle_of, component_of}
+use Rattle.search_refine.specs.declared.Point as DeclaredPoint
 use Rattle.search_pairs.specs.declared.SearchCounts as Declared
 
 -- left + k * delta, written out
 abbrev pub spaced : ℕ → ℕ → Float
 spaced n k = neg pi ⊕ as_f64 k ⊗ ((pi ⊖ neg pi) ⊘ as_f64 n)
 
--- the first n numbers of a list are those of a rule
-abbrev pub Sampled : (ℕ → Float) → ℕ → List Float → Type 0
-Sampled g n l = (k : ℕ) → k < n → get_or l k nan ≡ g k
+-- the first m points of a list are those of a rule
+abbrev pub Sampled : (ℕ → Point) → ℕ → List DeclaredPoint.Point → Type 0
+Sampled g m l = (k : ℕ) → k < m → points l k ≡ g k
 
--- The first m entries of five lists are the angles of the grid of n, and the error's four components there.
-pub record Gridded (err : ℕ → Float → Float) (n m : ℕ) (xs y0 y1 y2 y3 : List Float) : Type 0 where
-  pub angles : Sampled (angle n) m xs
-  pub first : Sampled (λ (k : ℕ). err 0 (angle n k)) m y0
-  pub second : Sampled (λ (k : ℕ). err 1 (angle n k)) m y1
-  pub third : Sampled (λ (k : ℕ). err 2 (angle n k)) m y2
-  pub fourth : Sampled (λ (k : ℕ). err 3 (angle n k)) m y3
+-- The first m points of four lists are the samples of the grid of n, of the error's four components.
+pub record Gridded (err : ℕ → Float → Float) (n m : ℕ) (r0 r1 r2 r3 : List DeclaredPoint.Point) : Type 0 where
+  pub first : Sampled (sample err n 0) m r0
+  pub second : Sampled (sample err n 1) m r1
+  pub third : Sampled (sample err n 2) m r2
+  pub fourth : Sampled (sample err n 3) m r3
 
 -- the four components over their rows of samples
 abbrev pub of_components : (ℕ → Float → Float) → ℕ → (ℕ → Point) → (ℕ → Point) → (ℕ → Point) → (ℕ → Point) → Out

@@ -3,8 +3,8 @@
 ghost use Rattle.std.specs.Prelude.{◌≡◌, ◌<◌, ◌≤◌, ◌+◌, length};
 ghost use Rattle.search_definition.specs.Search as Search;
 ghost use Rattle.search_definition.specs.Search.{edges, runs, of_component, search_1d_bracketed};
-ghost use Rattle.search_error.specs.Fixed.{error_at};
-ghost use Rattle.search.specs.State.{row, held, state, afterwards};
+ghost use Rattle.search_error.specs.Fixed.{branch_error, error_at};
+ghost use Rattle.search.specs.State.{Roomy, points, held, state, afterwards};
 ghost use Rattle.search.specs.Demand.{two_parallel_search};
 ghost use Rattle.search.specs.Searched.{spaced, Gridded, of_components, Searched, search_within};
 
@@ -12,78 +12,66 @@ use float::{PI, infinity, is_finite};
 use kinematics::Kinematics;
 use linear::{Matrix3, Vector3};
 use search_edge::edge::edge_at;
-use search_error::{Fixed, error_given_q1};
+use search_error::{Branch, Fixed};
 use search_pairs::SearchCounts;
+use search_refine::Point;
 use search_scan::scan::scan_samples;
 
 // A run of finite samples is ended by one that is not finite, or by the grid's end.
 pub fn scan_runs(
-    fixed: Fixed,
-    i: u8,
-    xs: &[f64],
-    ys: &[f64],
+    branch: &Branch,
+    row: &[Point],
     n: usize,
     qs: &mut [f64],
     cs: &mut [u8],
     f: SearchCounts,
 ) -> SearchCounts
-    requires { (i < 4) × (n < length xs.now) × (n < length ys.now) × (n ≤ 400) × (f.pairs ≤ 100000) × (f.evals ≤ 100000000) }
-    ensures { state qs.new cs.new result ≡ afterwards (state qs.old cs.old f) (runs (error_at fixed i) i (row xs.now ys.now) (n + 1) 0 0) }
+    requires { (n < length row.now) × (n ≤ 400) × Roomy 100000 f }
+    ensures { state qs.new cs.new result ≡ afterwards (state qs.old cs.old f) (runs (branch_error branch.now) branch.now.i (points row.now) (n + 1) 0 0) }
 {
     let mut g = f;
-    let mut s = 0usize;
-    'grid: loop {
-        let mut m = 0usize;
-        loop {
-            if n < s + m {
-                break 'grid;
-            }
-            if !is_finite(ys[s + m]) {
-                break;
-            }
-            m += 1;
+    let mut s = 0;
+    for k in 0..n + 1 {
+        if is_finite(row[k].y) {
+            continue;
         }
-        g = scan_samples(fixed, i, xs, ys, s, m, qs, cs, g);
-        s = s + m + 1;
+        g = scan_samples(branch, row, s, k - s, qs, cs, g);
+        s = k + 1;
     }
-    scan_samples(fixed, i, xs, ys, s, n + 1 - s, qs, cs, g)
+    scan_samples(branch, row, s, n + 1 - s, qs, cs, g)
 }
 
 pub fn scan_edges(
-    fixed: Fixed,
-    i: u8,
-    xs: &[f64],
-    ys: &[f64],
+    branch: &Branch,
+    row: &[Point],
     n: usize,
     qs: &mut [f64],
     cs: &mut [u8],
     f: SearchCounts,
 ) -> SearchCounts
-    requires { (i < 4) × (n < length xs.now) × (n < length ys.now) × (n ≤ 400) × (f.pairs ≤ 110000) × (f.evals ≤ 110000000) }
-    ensures { state qs.new cs.new result ≡ afterwards (state qs.old cs.old f) (edges (error_at fixed i) i (row xs.now ys.now) n 0) }
+    requires { (n < length row.now) × (n ≤ 400) × Roomy 110000 f }
+    ensures { state qs.new cs.new result ≡ afterwards (state qs.old cs.old f) (edges (branch_error branch.now) branch.now.i (points row.now) n 0) }
 {
     let mut g = f;
     for k in 0..n {
-        g = edge_at(fixed, i, xs, ys, k, qs, cs, g);
+        g = edge_at(branch, row, k, qs, cs, g);
     }
     g
 }
 
 pub fn search_component(
-    fixed: Fixed,
-    i: u8,
-    xs: &[f64],
-    ys: &[f64],
+    branch: &Branch,
+    row: &[Point],
     n: usize,
     qs: &mut [f64],
     cs: &mut [u8],
     f: SearchCounts,
 ) -> SearchCounts
-    requires { (i < 4) × (n < length xs.now) × (n < length ys.now) × (n ≤ 400) × (f.pairs ≤ 100000) × (f.evals ≤ 100000000) }
-    ensures { state qs.new cs.new result ≡ afterwards (state qs.old cs.old f) (of_component (error_at fixed i) i (row xs.now ys.now) n) }
+    requires { (n < length row.now) × (n ≤ 400) × Roomy 100000 f }
+    ensures { state qs.new cs.new result ≡ afterwards (state qs.old cs.old f) (of_component (branch_error branch.now) branch.now.i (points row.now) n) }
 {
-    let g = scan_runs(fixed, i, xs, ys, n, qs, cs, f);
-    scan_edges(fixed, i, xs, ys, n, qs, cs, g)
+    let g = scan_runs(branch, row, n, qs, cs, f);
+    scan_edges(branch, row, n, qs, cs, g)
 }
 
 // left + k * delta, with delta = (right - left) / n. The last angle is not set to PI.
@@ -93,77 +81,112 @@ pub fn angle(n: u32, k: u32) -> f64
     -PI + (k as f64) * ((PI - -PI) / (n as f64))
 }
 
-// The grid's angles, and the error's components there: n + 1 evaluations, which are returned.
+// The grid's samples, a row for each of the error's components: n + 1 evaluations, which are returned.
 pub fn sample_grid(
-    fixed: Fixed,
+    fixed: &Fixed,
     n: usize,
-    xs: &mut [f64],
-    y0: &mut [f64],
-    y1: &mut [f64],
-    y2: &mut [f64],
-    y3: &mut [f64],
+    r0: &mut [Point],
+    r1: &mut [Point],
+    r2: &mut [Point],
+    r3: &mut [Point],
 ) -> u64
-    requires { (n ≤ 400) × (n < length xs.old) × (n < length y0.old) × (n < length y1.old) × (n < length y2.old) × (n < length y3.old) }
-    ensures { (result ≡ n + 1) × Gridded (error_at fixed) n (n + 1) xs.new y0.new y1.new y2.new y3.new }
+    requires { (n ≤ 400) × (n < length r0.old) × (n < length r1.old) × (n < length r2.old) × (n < length r3.old) }
+    ensures { (result ≡ n + 1) × Gridded (error_at fixed.now) n (n + 1) r0.new r1.new r2.new r3.new }
 {
-    let mut evals = 0u64;
-    let mut k = 0usize;
-    while k <= n {
+    for k in 0..n + 1 {
         let x = angle(n as u32, k as u32);
-        let e = error_given_q1(fixed, x);
-        evals += 1;
-        xs[k] = x;
-        y0[k] = e[0];
-        y1[k] = e[1];
-        y2[k] = e[2];
-        y3[k] = e[3];
-        k += 1;
+        let e = fixed.error(x);
+        r0[k] = Point { x, y: e[0] };
+        r1[k] = Point { x, y: e[1] };
+        r2[k] = Point { x, y: e[2] };
+        r3[k] = Point { x, y: e[3] };
     }
-    evals
+    n as u64 + 1
 }
 
 // The components one after the other.
 pub fn search_components(
-    fixed: Fixed,
+    fixed: &Fixed,
     n: usize,
-    xs: &[f64],
-    y0: &[f64],
-    y1: &[f64],
-    y2: &[f64],
-    y3: &[f64],
+    r0: &[Point],
+    r1: &[Point],
+    r2: &[Point],
+    r3: &[Point],
     qs: &mut [f64],
     cs: &mut [u8],
     f: SearchCounts,
 ) -> SearchCounts
-    requires { (n < length xs.now) × (n < length y0.now) × (n < length y1.now) × (n < length y2.now) × (n < length y3.now) × (n ≤ 400) × (f.pairs ≤ 10000) × (f.evals ≤ 10000000) }
-    ensures { state qs.new cs.new result ≡ afterwards (state qs.old cs.old f) (of_components (error_at fixed) n (row xs.now y0.now) (row xs.now y1.now) (row xs.now y2.now) (row xs.now y3.now)) }
+    requires { (n < length r0.now) × (n < length r1.now) × (n < length r2.now) × (n < length r3.now) × (n ≤ 400) × Roomy 10000 f }
+    ensures { state qs.new cs.new result ≡ afterwards (state qs.old cs.old f) (of_components (error_at fixed.now) n (points r0.now) (points r1.now) (points r2.now) (points r3.now)) }
 {
-    let f0 = search_component(fixed, 0, xs, y0, n, qs, cs, f);
-    let f1 = search_component(fixed, 1, xs, y1, n, qs, cs, f0);
-    let f2 = search_component(fixed, 2, xs, y2, n, qs, cs, f1);
-    search_component(fixed, 3, xs, y3, n, qs, cs, f2)
+    let f0 = search_component(
+        &Branch {
+            fixed: *fixed,
+            i: 0,
+        },
+        r0,
+        n,
+        qs,
+        cs,
+        f,
+    );
+    let f1 = search_component(
+        &Branch {
+            fixed: *fixed,
+            i: 1,
+        },
+        r1,
+        n,
+        qs,
+        cs,
+        f0,
+    );
+    let f2 = search_component(
+        &Branch {
+            fixed: *fixed,
+            i: 2,
+        },
+        r2,
+        n,
+        qs,
+        cs,
+        f1,
+    );
+    search_component(
+        &Branch {
+            fixed: *fixed,
+            i: 3,
+        },
+        r3,
+        n,
+        qs,
+        cs,
+        f2,
+    )
 }
 
-// One array of 401 entries for each component, all infinite at first and filled up to n.
-pub fn search_grid(fixed: Fixed, n: usize, qs: &mut [f64], cs: &mut [u8]) -> SearchCounts
+// One row of 401 points for each component, all infinite at first and filled up to n.
+pub fn search_grid(fixed: &Fixed, n: usize, qs: &mut [f64], cs: &mut [u8]) -> SearchCounts
     requires { n ≤ 400 }
-    ensures { state qs.new cs.new result ≡ afterwards (held qs.old cs.old 0 0) (search_1d_bracketed (error_at fixed) n) }
+    ensures { state qs.new cs.new result ≡ afterwards (held qs.old cs.old 0 0) (search_1d_bracketed (error_at fixed.now) n) }
 {
-    let inf = infinity();
-    let mut xs = [inf; 401];
-    let mut y0 = [inf; 401];
-    let mut y1 = [inf; 401];
-    let mut y2 = [inf; 401];
-    let mut y3 = [inf; 401];
-    let evals = sample_grid(fixed, n, &mut xs, &mut y0, &mut y1, &mut y2, &mut y3);
+    let none = Point {
+        x: infinity(),
+        y: infinity(),
+    };
+    let mut r0 = [none; 401];
+    let mut r1 = [none; 401];
+    let mut r2 = [none; 401];
+    let mut r3 = [none; 401];
+    let evals = sample_grid(fixed, n, &mut r0, &mut r1, &mut r2, &mut r3);
     let f = SearchCounts { pairs: 0, evals };
-    search_components(fixed, n, &xs, &y0, &y1, &y2, &y3, qs, cs, f)
+    search_components(fixed, n, &r0, &r1, &r2, &r3, qs, cs, f)
 }
 
 // The search over n + 1 samples. The lists have room for every pair if they are 44 * n long. An n above
-// 400, for which the arrays are too small, is not searched: no pair, no evaluation.
-pub fn search_1d_bracketed(fixed: Fixed, n: usize, qs: &mut [f64], cs: &mut [u8]) -> SearchCounts
-    ensures { Searched (search_within (error_at fixed) n) qs.old cs.old qs.new cs.new result }
+// 400, for which the rows are too short, is not searched: no pair, no evaluation.
+pub fn search_1d_bracketed(fixed: &Fixed, n: usize, qs: &mut [f64], cs: &mut [u8]) -> SearchCounts
+    ensures { Searched (search_within (error_at fixed.now) n) qs.old cs.old qs.new cs.new result }
 {
     if n > 400 {
         return SearchCounts { pairs: 0, evals: 0 };
@@ -182,5 +205,5 @@ pub fn search_two_parallel(
 ) -> SearchCounts
     ensures { Searched (two_parallel_search kin r_06 p_0t n) qs.old cs.old qs.new cs.new result }
 {
-    search_1d_bracketed(Fixed::new(kin, r_06, p_0t), n, qs, cs)
+    search_1d_bracketed(&Fixed::new(kin, r_06, p_0t), n, qs, cs)
 }

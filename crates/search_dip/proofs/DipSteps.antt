@@ -1,41 +1,14 @@
 -- The steps of minimise_dip, by what the code's calls ensure. Assumes nothing.
 use mathlib.Core.Path.{◌≡◌, sym, ◌∙◌, ap}
-use mathlib.Core.Bool.{Bool, true, false, cond}
+use mathlib.Core.Bool.{Bool, true, false}
 use mathlib.Core.List.{[], ◌∷◌}
 use Prim.Native.Nat.{ℕ, ◌+◌, ◌-◌, ◌≤◌, ◌<◌}
 use lib.Ieee.{Float, lt}
-use Rattle.float.specs.Num.{◌⊗◌, nought, infinity}
-use Rattle.float.specs.Number.{is_finite}
+use Rattle.float.specs.Num.{nought}
 use Rattle.search_definition.specs.Found.{asking, run}
-use Rattle.search_definition.specs.Dip.{Valley, left_of, right_of, bettered, best, if_below, probe, depth, moved, dip_step, opened, itself, lowest_from, lowest}
+use Rattle.search_definition.specs.Dip.{Valley, left_of, right_of, best, if_below, probe, moved, dip_step, opened, itself, lowest_from, lowest}
 use Rattle.search_refine.specs.Counted.{Counted, with_count, total, counted}
 use Rattle.search_refine.proofs.Count.{counted_asking, counted_total, step_leaves, step_goes, steps_end}
-
-module _ (f : Float → Float) (sign x : Float) {y : Float} {r : Bool} (e : y ≡ f x) (q : r ≡ is_finite y) where
-  pub depth_finite : r ≡ true → sign ⊗ y ≡ depth f sign x
-  unfolding depth
-  depth_finite t = let v : is_finite y ≡ true = sym q ∙ t in rw (← e, v)
-
-  pub depth_infinite : {z : Float} → r ≡ false → z ≡ infinity → z ≡ depth f sign x
-  unfolding depth
-  depth_infinite t d = let v : is_finite y ≡ false = sym q ∙ t in rw (← e, v) d
-
-module _ (f : Float → Float) (sign : Float) (v : Valley) (n : ℕ) {p g : Float} where
-  pub moved_left : lt v.g1 v.g2 ≡ true → p ≡ left_of v.lo v.x2 → g ≡ depth f sign p → ◌≡◌ {A = Counted Valley} (with_count (record { lo = v.lo; hi = v.x2; x1 = p; x2 = v.x1; g1 = g; g2 = v.g1; best_x = v.best_x; best_g = v.best_g }) n) (with_count (moved f sign (lt v.g1 v.g2) v) n)
-  unfolding moved probe
-  moved_left t e d = cc
-
-  pub moved_right : lt v.g1 v.g2 ≡ false → p ≡ right_of v.x1 v.hi → g ≡ depth f sign p → ◌≡◌ {A = Counted Valley} (with_count (record { lo = v.x1; hi = v.hi; x1 = v.x2; x2 = p; g1 = v.g2; g2 = g; best_x = v.best_x; best_g = v.best_g }) n) (with_count (moved f sign (lt v.g1 v.g2) v) n)
-  unfolding moved probe
-  moved_right t e d = cc
-
-pub best_of : (v : Valley) (n : ℕ) {x g bx bg : Float} → x ≡ cond (lt v.g1 v.g2) v.x1 v.x2 → g ≡ cond (lt v.g1 v.g2) v.g1 v.g2 → bx ≡ cond (lt g v.best_g) x v.best_x → bg ≡ cond (lt g v.best_g) g v.best_g → ◌≡◌ {A = Counted Valley} (with_count (record { lo = v.lo; hi = v.hi; x1 = v.x1; x2 = v.x2; g1 = v.g1; g2 = v.g2; best_x = bx; best_g = bg }) n) (with_count (best v) n)
-unfolding best bettered
-best_of v n ex eg ebx ebg = cc
-
-pub opened_of : (f : Float → Float) (sign a b : Float) (n : ℕ) {p q g h bx bg : Float} → p ≡ left_of a b → q ≡ right_of a b → g ≡ depth f sign p → h ≡ depth f sign q → bx ≡ cond (lt g h) p q → bg ≡ cond (lt g h) g h → ◌≡◌ {A = Counted Valley} (with_count (record { lo = a; hi = b; x1 = p; x2 = q; g1 = g; g2 = h; best_x = bx; best_g = bg }) n) (with_count (opened f sign a b) n)
-unfolding opened
-opened_of f sign a b n ep eq eg eh ebx ebg = cc
 
 -- one step: u is the valley after it
 module _ (f : Float → Float) (sign : Float) (v w u : Valley) (e : w ≡ moved f sign (lt v.g1 v.g2) v) (d : u ≡ best w) where

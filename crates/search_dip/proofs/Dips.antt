@@ -1,15 +1,20 @@
 -- What a dip adds, from its lowest point. Assumes nothing.
 use mathlib.Core.Path.{◌≡◌, sym, ◌∙◌, ap}
 use mathlib.Core.Bool.{Bool, true, false}
-use Prim.Native.Nat.{ℕ}
+use Prim.Native.Nat.{ℕ, ◌≤◌}
+use native.Mathlib.Omega.{arith}
 use lib.Ieee.{Float, lt}
 use Rattle.float.specs.Num.{◌⊗◌, nought}
 use Rattle.float.specs.Number.{is_finite}
 use Rattle.search_definition.specs.Found.{Part, only, before, after, Origin, asks, ◌then◌}
 use Rattle.search_definition.specs.Dip.{Valley, sign_of, lowest, Point, entry, if_tangent, refined, if_crossed, settled, minimise_dip}
-use Rattle.search_refine.specs.Counted.{Counted, with_count, total}
+use Rattle.search_refine.specs.Counted.{Counted, with_count, evals_of, total}
+use Rattle.search_definition.proofs.Bounds.{lowest_asks}
 use Rattle.search_pairs.specs.State.{State, afterwards}
 use Rattle.search_pairs.proofs.States.{after_both, after_nothing, after_two, spend, after_asks}
+
+pub lowest_few : (f : Float → Float) (sign a b : Float) {v : Valley} {n : ℕ} → with_count v n ≡ total (lowest f sign a b) → n ≤ 18
+lowest_few f sign a b e = omega (arith, lowest_asks f sign a b, ap evals_of e)
 
 -- a dip: v is the lowest point, found in n evaluations
 module _ (f : Float → Float) (o : Part → Origin) (p q : Point) (s : State) {sign : Float} {v : Valley} {n : ℕ} (es : sign ≡ sign_of p.y) (ev : with_count v n ≡ total (lowest f sign p.x q.x)) where

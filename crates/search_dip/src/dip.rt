@@ -5,14 +5,16 @@ ghost use Rattle.std.specs.Float.Ieee.{lt};
 ghost use Rattle.search_definition.specs.Found.{Part, Origin, component};
 ghost use Rattle.search_definition.specs.Dip as Dip;
 ghost use Rattle.search_definition.specs.Dip.{left_of, right_of, sign_of, minimise_dip};
-ghost use Rattle.search_error.specs.Fixed.{error_at};
+ghost use Rattle.search_error.specs.Fixed.{branch_error};
 ghost use Rattle.search_refine.specs.Counted.{with_count, total};
-ghost use Rattle.search_pairs.specs.State.{point, state, afterwards};
+ghost use Rattle.search_refine.specs.Point.{point_of};
+ghost use Rattle.search_pairs.specs.State.{Roomy, state, afterwards};
 ghost use Rattle.search_dip.specs.Valley.{valley};
 
 use float::{infinity, is_finite};
-use search_error::{Fixed, error_at};
+use search_error::Branch;
 use search_pairs::{SearchCounts, put_pair, put_refined};
+use search_refine::Point;
 
 const INV_PHI: f64 = 0.618033988749895;
 
@@ -35,18 +37,21 @@ pub fn pick(c: bool, a: f64, b: f64) -> f64
     if c { a } else { b }
 }
 
+#[tactic(auto, unfolding(search_definition::specs::Dip::left_of))]
 pub fn left_of(lo: f64, hi: f64) -> f64
     ensures { result ≡ left_of lo hi }
 {
     hi - INV_PHI * (hi - lo)
 }
 
+#[tactic(auto, unfolding(search_definition::specs::Dip::right_of))]
 pub fn right_of(lo: f64, hi: f64) -> f64
     ensures { result ≡ right_of lo hi }
 {
     lo + INV_PHI * (hi - lo)
 }
 
+#[tactic(auto, unfolding(search_definition::specs::Dip::sign_of, search_definition::specs::Refine::negative))]
 pub fn sign_of(y: f64) -> f64
     ensures { result ≡ sign_of y }
 {
@@ -54,80 +59,79 @@ pub fn sign_of(y: f64) -> f64
 }
 
 // The Rust's closure g: one evaluation, infinite where the component is not finite.
-pub fn depth(fixed: Fixed, i: usize, sign: f64, x: f64) -> f64
-    requires { i < 4 }
-    ensures { result ≡ Dip.depth (error_at fixed i) sign x }
+#[tactic(auto, unfolding(search_definition::specs::Dip::depth))]
+pub fn depth(branch: &Branch, sign: f64, x: f64) -> f64
+    ensures { result ≡ Dip.depth (branch_error branch.now) sign x }
 {
-    let y = error_at(fixed, i, x);
-    if is_finite(y) {
-        return sign * y;
-    }
-    infinity()
+    let y = branch.error(x);
+    if is_finite(y) { sign * y } else { infinity() }
 }
 
 // One golden section: the side with the lower point is kept, and its new point evaluated.
-pub fn moved(fixed: Fixed, i: usize, sign: f64, v: Valley) -> Valley
-    requires { (i < 4) × (v.evals < 1000) }
-    ensures { with_count (valley result) result.evals ≡ with_count (Dip.moved (error_at fixed i) sign (lt v.g1 v.g2) (valley v)) (v.evals + 1) }
+#[tactic(auto, unfolding(search_definition::specs::Dip::moved, search_definition::specs::Dip::probe))]
+pub fn moved(branch: &Branch, sign: f64, v: Valley) -> Valley
+    requires { v.evals < 1000 }
+    ensures { with_count (valley result) result.evals ≡ with_count (Dip.moved (branch_error branch.now) sign (lt v.g1 v.g2) (valley v)) (v.evals + 1) }
 {
+    let evals = v.evals + 1;
     if v.g1 < v.g2 {
-        let p = left_of(v.lo, v.x2);
-        let g = depth(fixed, i, sign, p);
-        return Valley {
+        let x1 = left_of(v.lo, v.x2);
+        let g1 = depth(branch, sign, x1);
+        Valley {
             hi: v.x2,
-            x1: p,
+            x1,
             x2: v.x1,
-            g1: g,
+            g1,
             g2: v.g1,
-            evals: v.evals + 1,
+            evals,
             ..v
-        };
-    }
-    let p = right_of(v.x1, v.hi);
-    let g = depth(fixed, i, sign, p);
-    Valley {
-        lo: v.x1,
-        x1: v.x2,
-        x2: p,
-        g1: v.g2,
-        g2: g,
-        evals: v.evals + 1,
-        ..v
+        }
+    } else {
+        let x2 = right_of(v.x1, v.hi);
+        let g2 = depth(branch, sign, x2);
+        Valley {
+            lo: v.x1,
+            x1: v.x2,
+            x2,
+            g1: v.g2,
+            g2,
+            evals,
+            ..v
+        }
     }
 }
 
 // The lower of the two inner points becomes the best where it is lower than that.
+#[tactic(auto, unfolding(search_definition::specs::Dip::best, search_definition::specs::Dip::bettered))]
 pub fn best(v: Valley) -> Valley
     ensures { with_count (valley result) result.evals ≡ with_count (Dip.best (valley v)) v.evals }
 {
-    let c = v.g1 < v.g2;
-    let x = pick(c, v.x1, v.x2);
-    let g = pick(c, v.g1, v.g2);
-    let d = g < v.best_g;
-    let best_x = pick(d, x, v.best_x);
-    let best_g = pick(d, g, v.best_g);
-    Valley {
-        best_x,
-        best_g,
-        ..v
+    let (x, g) = if v.g1 < v.g2 {
+        (v.x1, v.g1)
+    } else {
+        (v.x2, v.g2)
+    };
+    if g < v.best_g {
+        Valley {
+            best_x: x,
+            best_g: g,
+            ..v
+        }
+    } else {
+        v
     }
 }
 
 // The first two inner points, with their two evaluations.
-pub fn opened(fixed: Fixed, i: usize, sign: f64, a: f64, b: f64) -> Valley
-    requires { i < 4 }
-    ensures { with_count (valley result) result.evals ≡ with_count (Dip.opened (error_at fixed i) sign a b) 2 }
+#[tactic(auto, unfolding(search_definition::specs::Dip::opened))]
+pub fn opened(branch: &Branch, sign: f64, a: f64, b: f64) -> Valley
+    ensures { with_count (valley result) result.evals ≡ with_count (Dip.opened (branch_error branch.now) sign a b) 2 }
 {
     let x1 = left_of(a, b);
     let x2 = right_of(a, b);
-    let mut evals = 0u64;
-    let g1 = depth(fixed, i, sign, x1);
-    evals += 1;
-    let g2 = depth(fixed, i, sign, x2);
-    evals += 1;
-    let c = g1 < g2;
-    let best_x = pick(c, x1, x2);
-    let best_g = pick(c, g1, g2);
+    let g1 = depth(branch, sign, x1);
+    let g2 = depth(branch, sign, x2);
+    let (best_x, best_g) = if g1 < g2 { (x1, g1) } else { (x2, g2) };
     Valley {
         lo: a,
         hi: b,
@@ -137,59 +141,52 @@ pub fn opened(fixed: Fixed, i: usize, sign: f64, a: f64, b: f64) -> Valley
         g2,
         best_x,
         best_g,
-        evals,
+        evals: 2,
     }
 }
 
 // Golden section between a and b, until the best is below zero.
-pub fn lowest(fixed: Fixed, i: usize, sign: f64, a: f64, b: f64) -> Valley
-    requires { i < 4 }
-    ensures { with_count (valley result) result.evals ≡ total (Dip.lowest (error_at fixed i) sign a b) }
+pub fn lowest(branch: &Branch, sign: f64, a: f64, b: f64) -> Valley
+    ensures { with_count (valley result) result.evals ≡ total (Dip.lowest (branch_error branch.now) sign a b) }
 {
-    let mut v = opened(fixed, i, sign, a, b);
-    for _ in 0..16usize {
-        v = best(moved(fixed, i, sign, v));
+    let mut v = opened(branch, sign, a, b);
+    for k in 0..16u64 {
+        v = best(moved(branch, sign, v));
         if v.best_g < 0.0 {
-            break;
+            return v;
         }
     }
     v
 }
 
-// The dip between a and b, whose errors are fa and fb: one pair or two, or none. The contract says it
-// for every way o to name what added a pair, so that a caller can take its own; the state is the
-// pairs listed so far and the evaluations, and the counts are so low that no counter overflows.
+// The dip between a and b: one pair or two, or none. The contract says it for every way o to name what
+// added a pair, so that a caller can take its own; the state is the pairs listed so far and the
+// evaluations, and the counts are so low that no counter overflows.
 pub fn minimise_dip(
-    fixed: Fixed,
-    i: u8,
-    a: f64,
-    b: f64,
-    fa: f64,
-    fb: f64,
+    branch: &Branch,
+    a: Point,
+    b: Point,
     qs: &mut [f64],
     cs: &mut [u8],
     f: SearchCounts,
 ) -> SearchCounts
-    requires { (i < 4) × (f.pairs ≤ 1000000) × (f.evals ≤ 1000000000) }
-    ensures { ((o : Part → Origin) → ((h : Part) → component (o h) ≡ i) → state qs.new cs.new result ≡ afterwards (state qs.old cs.old f) (minimise_dip (error_at fixed i) o (point a fa) (point b fb))) }
+    requires { Roomy 1000000 f }
+    ensures { ((o : Part → Origin) → ((h : Part) → component (o h) ≡ branch.now.i) → state qs.new cs.new result ≡ afterwards (state qs.old cs.old f) (minimise_dip (branch_error branch.now) o (point_of a) (point_of b))) }
 {
-    let sign = sign_of(fa);
-    let v = lowest(fixed, i as usize, sign, a, b);
-    let n = v.evals;
-    let x = v.best_x;
-    let g = v.best_g;
-    let evals = f.evals;
-    let h = SearchCounts {
-        pairs: f.pairs,
-        evals: evals + n,
-    };
-    if g < 0.0 {
-        let m = sign * g;
-        let k = put_refined(fixed, i, a, x, fa, m, qs, cs, h);
-        return put_refined(fixed, i, x, b, m, fb, qs, cs, k);
+    let sign = sign_of(a.y);
+    let v = lowest(branch, sign, a.x, b.x);
+    let evals = f.evals + v.evals;
+    let h = SearchCounts { evals, ..f };
+    if v.best_g < 0.0 {
+        let m = Point {
+            x: v.best_x,
+            y: sign * v.best_g,
+        };
+        let k = put_refined(branch, a, m, qs, cs, h);
+        return put_refined(branch, m, b, qs, cs, k);
     }
-    if is_finite(g) {
-        return put_pair(i, x, qs, cs, h);
+    if is_finite(v.best_g) {
+        return put_pair(branch.i, v.best_x, qs, cs, h);
     }
     h
 }

@@ -1,9 +1,9 @@
 -- The steps at the end of a branch: bisection, and the row of samples towards it. Assumes nothing.
-use Rattle.std.proofs.Common.{◌≡◌, ℕ, zero, suc, ◌+◌, ◌-◌, ◌<◌, ◌≤◌, Bool, true, false, ◌≢◌, List, [], ◌∷◌, ◌++◌, reverse, length, get_or, set, sym, refl, ap, ◌∙◌, ap₂, append_assoc, append-nil, not-suc-le-zero, add-one, arith, length-append, get_or-set_other, get_or-set_same}
+use Rattle.std.proofs.Common.{◌≡◌, ℕ, zero, suc, ◌+◌, ◌-◌, ◌<◌, ◌≤◌, Bool, true, false, ◌≢◌, List, [], ◌∷◌, ◌++◌, map, reverse, length, get_or, set, sym, refl, ap, ◌∙◌, ap₂, append_assoc, append-nil, not-suc-le-zero, add-one, arith, length-append, get_or-set_other, get_or-set_same}
 use mathlib.Core.Bool.{beq}
-use mathlib.Core.List.{reverse-append}
+use mathlib.Core.List.{reverse-append, map-append}
 use native.Mathlib.Decide.{ℕ_discrete}
-use lib.ListN.{get_or-append}
+use lib.ListN.{get_or-append, get_or-map, length-map}
 use lib.Seq.{get_or-append_seam}
 use lib.Ieee.{Float, nan, lt}
 use Rattle.float.specs.Num.{◌⊕◌, ◌⊖◌, ◌⊗◌}
@@ -11,38 +11,27 @@ use Rattle.float.specs.Number.{is_finite}
 use Rattle.search_definition.specs.Found.{Place, Origin, edge, asks, ◌then◌, Asked}
 use Rattle.search_definition.specs.Dip.{Point}
 use Rattle.search_definition.specs.Scan.{scan_samples}
-use Rattle.search_definition.specs.Search.{Gap, mid, if_inside, keep, reversed_if, share, halved, bisect, subsample, subsamples, edge_points, edge_row, row_at, if_first_inside, scan_row, edge_from, if_alike, edge_at}
-use Rattle.search_refine.specs.Counted.{Counted, with_count, counted}
-use Rattle.search_pairs.specs.State.{point, row, firsts, State, afterwards}
-use Rattle.search_refine.proofs.Count.{counted_asking}
+use Rattle.search_definition.specs.Search.{Gap, mid, keep, reversed_if, share, halved, bisect, subsample, subsamples, edge_points, edge_row, row_at, if_first_inside, scan_row, edge_from, if_alike, edge_at}
+use Rattle.search_refine.specs.Counted.{Counted, with_count, total, counted}
+use Rattle.search_refine.specs.Point.{point_of}
+use Rattle.search_refine.specs.declared.Point as DeclaredPoint
+use Rattle.search_pairs.specs.State.{point, points, row, firsts, State, afterwards}
+use Rattle.search_refine.proofs.Count.{counted_asking, counted_total}
 use Rattle.search_pairs.proofs.States.{after_both, after_nothing, spend, after_asks}
-use Rattle.search_edge.proofs.Rows.{scan_same}
 
--- ---- bisection
-module _ (f : Float → Float) (g : Gap) (n : ℕ) {y : Float} {r : Bool} (e : y ≡ f (mid g)) (q : r ≡ is_finite y) where
-  pub halved_in : r ≡ true → with_count (record { inside = point (mid g) y; outside = g.outside }) n ≡ with_count (halved f g) n
-  unfolding halved if_inside
-  halved_in t = cc
-
-  pub halved_out : r ≡ false → with_count (record { inside = g.inside; outside = mid g }) n ≡ with_count (halved f g) n
-  unfolding halved if_inside
-  halved_out t = cc
-
-pub bisect_step : (f : Float → Float) (k : ℕ) (g : Gap) (n : ℕ) {h : Gap} {m : ℕ} (u : Counted Gap) → k < 16 → counted n (bisect f (16 - k) g) ≡ u → with_count h m ≡ with_count (halved f g) (n + 1) → counted m (bisect f (16 - (k + 1)) h) ≡ u
+-- ---- bisection: k of 16 are made, of one evaluation each
+pub bisect_step : (f : Float → Float) (k : ℕ) (g : Gap) {h : Gap} (u : Counted Gap) → k < 16 → counted k (bisect f (16 - k) g) ≡ u → h ≡ halved f g → counted (k + 1) (bisect f (16 - (k + 1)) h) ≡ u
 unfolding bisect
-bisect_step f k g n u l inv e =
+bisect_step f k g u l inv e =
     let s : 16 - k ≡ suc (16 - (k + 1)) = omega arith in
-    ap (λ (c : Counted Gap). counted c.evals (bisect f (16 - (k + 1)) c.value)) e
-    ∙ sym (counted_asking n (mid g ∷ []) (bisect f (16 - (k + 1)) (halved f g)))
-    ∙ sym (ap (λ (z : ℕ). counted n (bisect f z g)) s)
+    ap (λ (z : Gap). counted (k + 1) (bisect f (16 - (k + 1)) z)) e
+    ∙ sym (counted_asking k (mid g ∷ []) (bisect f (16 - (k + 1)) (halved f g)))
+    ∙ sym (ap (λ (z : ℕ). counted k (bisect f z g)) s)
     ∙ inv
 
-pub bisect_end : (f : Float → Float) (k : ℕ) (g : Gap) (n : ℕ) (u : Counted Gap) → 16 ≤ k → counted n (bisect f (16 - k) g) ≡ u → with_count g n ≡ u
+pub bisect_end : (f : Float → Float) (k : ℕ) (g : Gap) (u : Counted Gap) → k ≡ 16 → counted k (bisect f (16 - k) g) ≡ u → with_count g 16 ≡ u
 unfolding bisect
-bisect_end f k g n u l inv =
-    let s : 16 - k ≡ 0 = omega arith in
-    let z : n ≡ n + 0 = omega arith in
-    ap (with_count g) z ∙ ap (λ (z : ℕ). counted n (bisect f z g)) (sym s) ∙ inv
+bisect_end f k g u e inv = sym (ap (λ (z : ℕ). counted z (bisect f (16 - z) g)) e) ∙ inv
 
 -- ---- the first points of a row
 pub firsts_ext : (P Q : ℕ → Point) (m : ℕ) → ((j : ℕ) → j < m → P j ≡ Q j) → firsts P m ≡ firsts Q m
@@ -63,14 +52,14 @@ pushed xs ys m a b h k =
     before : (j : ℕ) → j < m → row (set xs m a) (set ys m b) j ≡ row xs ys j
     before j l = ap₂ point (get_or-set_other xs m j a nan (other j l)) (get_or-set_other ys m j b nan (other j l))
 
-module _ (xs ys : List Float) (m : ℕ) (x y : Float) {r : Bool} (e : r ≡ is_finite y) where
-  pub kept : m < length xs → m < length ys → r ≡ true → firsts (row (set xs m x) (set ys m y)) (m + 1) ≡ firsts (row xs ys) m ++ keep (is_finite y) (point x y) []
+module _ (l : List DeclaredPoint.Point) (p : DeclaredPoint.Point) {r : Bool} (e : r ≡ is_finite p.y) where
+  pub kept : {m : List DeclaredPoint.Point} → r ≡ true → m ≡ l ++ (p ∷ []) → map point_of m ≡ map point_of l ++ keep (is_finite p.y) (point_of p) []
   unfolding keep
-  kept h k t = pushed xs ys m x y h k ∙ ap (λ (b : Bool). firsts (row xs ys) m ++ keep b (point x y) []) (sym t ∙ e)
+  kept t d = ap (map point_of) d ∙ map-append point_of l (p ∷ []) ∙ ap (λ (b : Bool). map point_of l ++ keep b (point_of p) []) (sym t ∙ e)
 
-  pub passed_over : r ≡ false → firsts (row xs ys) m ≡ firsts (row xs ys) m ++ keep (is_finite y) (point x y) []
+  pub passed_over : r ≡ false → map point_of l ≡ map point_of l ++ keep (is_finite p.y) (point_of p) []
   unfolding keep
-  passed_over t = sym (append-nil (firsts (row xs ys) m)) ∙ ap (λ (b : Bool). firsts (row xs ys) m ++ keep b (point x y) []) (sym t ∙ e)
+  passed_over t = sym (append-nil (map point_of l)) ∙ ap (λ (b : Bool). map point_of l ++ keep b (point_of p) []) (sym t ∙ e)
 
 -- ---- the samples towards the end: A is the row so far, and number j is the next
 module _ (f : Float → Float) (e p : Point) where
@@ -79,9 +68,9 @@ module _ (f : Float → Float) (e p : Point) where
       let r = subsamples f e.x p.x (8 - j) j in
       record { value = A ++ (r.value ++ (p ∷ [])); asked = r.asked }
 
-  pub row_starts : (n : ℕ) {A : List Point} → A ≡ (e ∷ []) → counted n (still A 1) ≡ counted n (edge_points f e p)
+  pub row_starts : {A : List Point} → A ≡ (e ∷ []) → counted 0 (still A 1) ≡ total (edge_points f e p)
   unfolding edge_points
-  row_starts n a = ap (λ (l : List Point). counted n (still l 1)) a
+  row_starts a = ap (λ (l : List Point). counted 0 (still l 1)) a ∙ counted_total (edge_points f e p)
 
   keep_append : (b : Bool) (q : Point) (l m : List Point) → keep b q l ++ m ≡ keep b q [] ++ (l ++ m)
   unfolding keep
@@ -106,14 +95,15 @@ module _ (f : Float → Float) (e p : Point) where
       ∙ sym (ap (λ (z : ℕ). counted n (record { value = A ++ ((subsamples f e.x p.x z j).value ++ (p ∷ [])); asked = (subsamples f e.x p.x z j).asked })) k)
       ∙ inv
 
-  pub row_done : (A : List Point) (j n : ℕ) (u : Counted (List Point)) {B : List Point} → 8 ≤ j → counted n (still A j) ≡ u → B ≡ A ++ (p ∷ []) → with_count B n ≡ u
+  -- number j is asked after j - 1 evaluations
+  pub row_goes : (A : List Point) (j : ℕ) (u : Counted (List Point)) {B : List Point} {s y : Float} → 1 ≤ j → j < 8 → counted (j - 1) (still A j) ≡ u → s ≡ share j → y ≡ f (e.x ⊕ (p.x ⊖ e.x) ⊗ s) → B ≡ A ++ keep (is_finite y) (point (e.x ⊕ (p.x ⊖ e.x) ⊗ s) y) [] → counted (j + 1 - 1) (still B (j + 1)) ≡ u
+  row_goes A j u {B} l h inv es ey eb =
+      let n : j + 1 - 1 ≡ j - 1 + 1 = omega arith in
+      ap (λ (z : ℕ). counted z (still B (j + 1))) n ∙ row_next A j (j - 1) u h inv es ey eb
+
+  pub row_done : (A : List Point) (j : ℕ) (u : Counted (List Point)) → j ≡ 8 → counted (j - 1) (still A j) ≡ u → with_count (A ++ (p ∷ [])) 7 ≡ u
   unfolding subsamples
-  row_done A j n u {B} h inv b =
-      let k : 8 - j ≡ 0 = omega arith in
-      let z : n ≡ n + 0 = omega arith in
-      (λ i. record { value = b i; evals = z i })
-      ∙ sym (ap (λ (z : ℕ). counted n (record { value = A ++ ((subsamples f e.x p.x z j).value ++ (p ∷ [])); asked = (subsamples f e.x p.x z j).asked })) k)
-      ∙ inv
+  row_done A j u h inv = sym (ap (λ (z : ℕ). counted (z - 1) (still A z)) h) ∙ inv
 
 -- ---- a row that is reversed-if round
 abbrev back : (ℕ → Point) → ℕ → ℕ → Point
@@ -173,47 +163,56 @@ firsts_at P (suc m) j d h = go (ℕ_discrete j m) (λ l. firsts_at P m j d l)
         inside : j ≢ m → j < length (firsts P m)
         inside n = omega (arith, firsts_length P m)
 
+pub map-reverse : {A B : Type 0} (g : A → B) (l : List A) → map g (reverse l) ≡ reverse (map g l)
+map-reverse g [] = refl
+map-reverse g (a ∷ l) =
+    ap (map g) (reverse-append (a ∷ []) l)
+    ∙ map-append g (reverse l) (a ∷ [])
+    ∙ ap (λ (m : List _). m ++ (g a ∷ [])) (map-reverse g l)
+    ∙ sym (reverse-append (g a ∷ []) (map g l))
+
 -- a row that the code holds is scanned as the definition's list
-row_scanned : (f : Float → Float) (o : Place → Origin) (P : ℕ → Point) (m : ℕ) (l : List Point) → firsts P m ≡ l → scan_samples f o P 0 m ≡ scan_row f o l
-unfolding scan_row row_at
-row_scanned f o P m l e =
-    let n : m ≡ length l = sym (firsts_length P m) ∙ ap length e in
-    scan_same f o P (row_at l) 0 m (λ j a b. sym (firsts_at P m j (point nan nan) (omega arith)) ∙ ap (λ (k : List Point). row_at k j) e)
-    ∙ ap (scan_samples f o (row_at l) 0) n
+points_are : (l : List DeclaredPoint.Point) → points l ≡ row_at (map point_of l)
+unfolding row_at
+points_are l = λ i k. sym (get_or-map point_of l k (record { x = nan; y = nan })) i
 
--- The whole of an edge: b is the gap after the bisections, k the count then; l the points of the row and n the count then; P the row that is scanned; t the state after the scan.
-module _ (f : Float → Float) (o : Place → Origin) (g : Gap) (s : State) {b : Gap} {k : ℕ} {l : List Point} {n : ℕ} {t : State} (P : ℕ → Point) (m : ℕ) (eb : with_count b k ≡ counted s.evals (bisect f 16 g)) (el : with_count l n ≡ counted k (edge_points f b.inside g.inside)) (et : t ≡ afterwards (record { angles = s.angles; components = s.components; pairs = s.pairs; evals = n }) (scan_samples f o P 0 m)) where
-  abbrev B : Asked Gap
-  B = bisect f 16 g
+row_scanned : (f : Float → Float) (o : Place → Origin) (l : List DeclaredPoint.Point) (m : ℕ) → m ≡ length l → scan_samples f o (points l) 0 m ≡ scan_row f o (map point_of l)
+unfolding scan_row
+row_scanned f o l m e =
+    ap (λ (P : ℕ → Point). scan_samples f o P 0 m) (points_are l)
+    ∙ ap (scan_samples f o (row_at (map point_of l)) 0) (e ∙ sym (length-map l point_of))
 
+-- The whole of an edge: b is the gap after the bisections, r the points of the row, l those of the row that is scanned, t the state after the scan.
+module _ (f : Float → Float) (o : Place → Origin) (g : Gap) (s : State) {b : Gap} {r : List Point} {t : State} (l : List DeclaredPoint.Point) (m : ℕ) (eb : with_count b 16 ≡ total (bisect f 16 g)) (er : with_count r 7 ≡ total (edge_points f b.inside g.inside)) (em : m ≡ length l) (et : t ≡ afterwards (spend (spend s 16) 7) (scan_samples f o (points l) 0 m)) where
   abbrev R : Asked (List Point)
-  R = edge_row f B.value.inside g.inside
+  R = edge_row f (bisect f 16 g).value.inside g.inside
 
-  row_is : with_count (reversed_if (lt g.inside.x b.inside.x) l) n ≡ counted (s.evals + length B.asked) R
+  row_is : with_count (reversed_if (lt g.inside.x b.inside.x) r) 7 ≡ total R
   unfolding edge_row
   row_is =
-      ap (λ (c : Counted (List Point)). with_count (reversed_if (lt g.inside.x b.inside.x) c.value) c.evals) el
-      ∙ ap (λ (c : Counted Gap). counted c.evals (edge_row f c.value.inside g.inside)) eb
+      ap (λ (c : Counted (List Point)). with_count (reversed_if (lt g.inside.x b.inside.x) c.value) c.evals) er
+      ∙ ap (λ (c : Counted Gap). total (edge_row f c.value.inside g.inside)) eb
 
-  edge_done : firsts P m ≡ reversed_if (lt g.inside.x b.inside.x) l → t ≡ afterwards s (edge_from f o g)
+  edge_done : map point_of l ≡ reversed_if (lt g.inside.x b.inside.x) r → t ≡ afterwards s (edge_from f o g)
   unfolding edge_from
   edge_done e =
-      let S : State = record { angles = s.angles; components = s.components; pairs = s.pairs; evals = n } in
+      let B = bisect f 16 g in
       et
-      ∙ ap (afterwards S) (row_scanned f o P m _ e)
-      ∙ ap (λ (c : Counted (List Point)). afterwards (record { angles = s.angles; components = s.components; pairs = s.pairs; evals = c.evals }) (scan_row f o c.value)) row_is
+      ∙ ap (afterwards (spend (spend s 16) 7)) (row_scanned f o l m em ∙ ap (scan_row f o) e)
+      ∙ ap (λ (c : Counted (List Point)). afterwards (spend (spend s 16) c.evals) (scan_row f o c.value)) row_is
+      ∙ ap (λ (c : Counted Gap). afterwards (spend (spend s c.evals) (length R.asked)) (scan_row f o R.value)) eb
       ∙ ap (λ (z : State). afterwards z (scan_row f o R.value)) (after_asks (spend s (length B.asked)) R.asked)
       ∙ sym (after_both (spend s (length B.asked)) (asks R.asked) (scan_row f o R.value))
       ∙ ap (λ (z : State). afterwards z (asks R.asked then scan_row f o R.value)) (after_asks s B.asked)
       ∙ sym (after_both s (asks B.asked) (asks R.asked then scan_row f o R.value))
 
-  pub edge_straight : lt g.inside.x b.inside.x ≡ false → firsts P m ≡ l → t ≡ afterwards s (edge_from f o g)
+  pub edge_straight : lt g.inside.x b.inside.x ≡ false → map point_of l ≡ r → t ≡ afterwards s (edge_from f o g)
   unfolding reversed_if
-  edge_straight h e = edge_done (e ∙ sym (ap (λ (z : Bool). reversed_if z l) h))
+  edge_straight h e = edge_done (e ∙ sym (ap (λ (z : Bool). reversed_if z r) h))
 
-  pub edge_reversed : lt g.inside.x b.inside.x ≡ true → firsts P m ≡ reverse l → t ≡ afterwards s (edge_from f o g)
+  pub edge_reversed : lt g.inside.x b.inside.x ≡ true → map point_of l ≡ reverse r → t ≡ afterwards s (edge_from f o g)
   unfolding reversed_if
-  edge_reversed h e = edge_done (e ∙ sym (ap (λ (z : Bool). reversed_if z l) h))
+  edge_reversed h e = edge_done (e ∙ sym (ap (λ (z : Bool). reversed_if z r) h))
 
 -- ---- between two samples
 module _ (f : Float → Float) (i : ℕ) (P : ℕ → Point) (k : ℕ) (s : State) {a b : Bool} (ea : a ≡ is_finite (P k).y) (eb : b ≡ is_finite (P (k + 1)).y) where
@@ -228,17 +227,9 @@ module _ (f : Float → Float) (i : ℕ) (P : ℕ → Point) (k : ℕ) (s : Stat
   unfolding if_alike
   edge_none h = sym (ap (afterwards s) (edge_is true h) ∙ after_nothing s)
 
-  gap_is : beq a b ≡ false → (z : Bool) → a ≡ z → edge_at f i P k ≡ edge_from f (edge i k) (if_first_inside z (P k) (P (k + 1)))
+  pub edge_found : {g : Gap} {t : State} → beq a b ≡ false → g ≡ if_first_inside a (P k) (P (k + 1)) → t ≡ afterwards s (edge_from f (edge i k) g) → t ≡ afterwards s (edge_at f i P k)
   unfolding if_alike
-  gap_is h z e =
-      edge_is false h
-      ∙ ap (λ (x : Bool). edge_from f (edge i k) (if_first_inside x (P k) (P (suc k)))) (sym ea ∙ e)
-      ∙ ap (λ (j : ℕ). edge_from f (edge i k) (if_first_inside z (P k) (P j))) (sym (add-one k))
-
-  pub edge_left : {t : State} → beq a b ≡ false → a ≡ true → t ≡ afterwards s (edge_from f (edge i k) (record { inside = P k; outside = (P (k + 1)).x })) → t ≡ afterwards s (edge_at f i P k)
-  unfolding if_first_inside
-  edge_left h q e = e ∙ sym (ap (afterwards s) (gap_is h true q))
-
-  pub edge_right : {t : State} → beq a b ≡ false → a ≡ false → t ≡ afterwards s (edge_from f (edge i k) (record { inside = P (k + 1); outside = (P k).x })) → t ≡ afterwards s (edge_at f i P k)
-  unfolding if_first_inside
-  edge_right h q e = e ∙ sym (ap (afterwards s) (gap_is h false q))
+  edge_found {g} h eg et =
+      et
+      ∙ ap (λ (z : Gap). afterwards s (edge_from f (edge i k) z)) (eg ∙ ap₂ (λ (x : Bool) (j : ℕ). if_first_inside x (P k) (P j)) ea (add-one k))
+      ∙ sym (ap (afterwards s) (edge_is false h))

@@ -1,72 +1,65 @@
 // The end of a branch between two grid samples: it is located by bisection, and the last stretch is
 // resampled densely towards it.
-ghost use Rattle.std.specs.Prelude.{◌≡◌, ℕ, ◌+◌, ◌-◌, ◌<◌, ◌≤◌, [], ◌++◌, length, slice_index_or};
-ghost use Rattle.std.specs.Float.{nan};
+ghost use Rattle.std.specs.Prelude.{◌≡◌, [], ◌++◌, map, ◌+◌, ◌<◌, ◌≤◌, length};
+ghost use Rattle.arrayvec.specs.ArrayVec.{array_vec_len};
 ghost use Rattle.float.specs.Number.{is_finite};
 ghost use Rattle.search_definition.specs.Found.{Place, Origin, component};
 ghost use Rattle.search_definition.specs.Search as Search;
 ghost use Rattle.search_definition.specs.Search.{keep, edge_points, edge_from, edge_at};
-ghost use Rattle.search_error.specs.Fixed.{error_at};
-ghost use Rattle.search_refine.specs.Counted.{with_count, counted};
-ghost use Rattle.search_pairs.specs.State.{point, row, firsts, held, state, afterwards};
+ghost use Rattle.search_error.specs.Fixed.{branch_error};
+ghost use Rattle.search_refine.specs.Counted.{with_count, total};
+ghost use Rattle.search_refine.specs.Point.{point_of};
+ghost use Rattle.search_pairs.specs.State.{Roomy, points, state, afterwards};
 ghost use Rattle.search_edge.specs.State.{gap};
 
+use arrayvec::ArrayVec;
 use float::is_finite;
-use search_error::{Fixed, error_at};
+use search_error::Branch;
 use search_pairs::SearchCounts;
+use search_refine::Point;
 use search_scan::scan::scan_samples;
 
-// A point of the branch, with its value, and an angle where the branch is not; the evaluations so far.
+// The evaluations of an edge: so many bisections, and so many samples towards the branch's end.
+const HALVINGS: u64 = 16;
+
+const SUBSAMPLES: u64 = 7;
+
+// A point of the branch, and an angle where the branch is not.
 #[derive(Clone, Copy)]
 pub struct Gap {
-    pub x: f64,
-    pub y: f64,
-    pub out: f64,
-    pub evals: u64,
+    pub inside: Point,
+    pub outside: f64,
 }
 
-// How many samples a row has, and the evaluations so far.
-#[derive(Clone, Copy)]
-pub struct Row {
-    pub len: usize,
-    pub evals: u64,
-}
-
-pub fn halved(fixed: Fixed, i: usize, g: Gap) -> Gap
-    requires { (i < 4) × (g.evals ≤ 2000000000) }
-    ensures { with_count (gap result) result.evals ≡ with_count (Search.halved (error_at fixed i) (gap g)) (g.evals + 1) }
+// One evaluation.
+#[tactic(auto, unfolding(search_definition::specs::Search::halved, search_definition::specs::Search::mid, search_definition::specs::Search::if_inside))]
+pub fn halved(branch: &Branch, g: Gap) -> Gap
+    ensures { gap result ≡ Search.halved (branch_error branch.now) (gap g) }
 {
-    let mid = 0.5 * (g.x + g.out);
-    let y = error_at(fixed, i, mid);
-    let evals = g.evals + 1;
+    let x = 0.5 * (g.inside.x + g.outside);
+    let y = branch.error(x);
     if is_finite(y) {
-        return Gap {
-            x: mid,
-            y,
-            out: g.out,
-            evals,
-        };
-    }
-    Gap {
-        x: g.x,
-        y: g.y,
-        out: mid,
-        evals,
+        Gap {
+            inside: Point { x, y },
+            ..g
+        }
+    } else {
+        Gap { outside: x, ..g }
     }
 }
 
-pub fn bisect(fixed: Fixed, i: usize, g: Gap) -> Gap
-    requires { (i < 4) × (g.evals ≤ 1000000000) }
-    ensures { with_count (gap result) result.evals ≡ counted g.evals (Search.bisect (error_at fixed i) 16 (gap g)) }
+pub fn bisect(branch: &Branch, g: Gap) -> Gap
+    ensures { with_count (gap result) HALVINGS ≡ total (Search.bisect (branch_error branch.now) 16 (gap g)) }
 {
     let mut h = g;
-    for _ in 0..16usize {
-        h = halved(fixed, i, h);
+    for k in 0..HALVINGS {
+        h = halved(branch, h);
     }
     h
 }
 
 // The square of j / 8.
+#[tactic(auto, unfolding(search_definition::specs::Search::share))]
 pub fn share(j: u64) -> f64
     ensures { result ≡ Search.share j }
 {
@@ -74,135 +67,90 @@ pub fn share(j: u64) -> f64
     q * q
 }
 
-// A sample goes to the end of a row of m samples, if it is finite.
-pub fn keep_finite(x: f64, y: f64, xs: &mut [f64], ys: &mut [f64], m: usize) -> usize
-    requires { (m < length xs.old) × (m < length ys.old) }
-    ensures { (result ≤ m + 1) × (firsts (row xs.new ys.new) result ≡ firsts (row xs.old ys.old) m ++ keep (is_finite y) (point x y) []) }
+// A sample goes to the end of a row, if it is finite.
+#[tactic(auto, using(crate::proofs::EdgeSteps::kept, crate::proofs::EdgeSteps::passed_over))]
+fn keep_finite(row: &mut ArrayVec<Point, 9>, p: Point)
+    requires { array_vec_len row.old < 9 }
+    ensures len { array_vec_len row.new ≤ array_vec_len row.old + 1 }
+    ensures kept { map point_of row.new.items ≡ map point_of row.old.items ++ keep (is_finite p.y) (point_of p) [] }
 {
-    if is_finite(y) {
-        xs[m] = x;
-        ys[m] = y;
-        return m + 1;
-    }
-    m
-}
-
-// Quadratic spacing from the branch's end, at lo, to the grid's sample at x, so that the sqrt-like start is resolved.
-pub fn edge_row(
-    fixed: Fixed,
-    i: usize,
-    lo: f64,
-    y_lo: f64,
-    x: f64,
-    y: f64,
-    evals: u64,
-    xs: &mut [f64],
-    ys: &mut [f64],
-) -> Row
-    requires { (i < 4) × (evals ≤ 1000000000) × (length xs.old ≡ 9) × (length ys.old ≡ 9) }
-    ensures { (result.len ≤ 9) × (with_count (firsts (row xs.new ys.new) result.len) result.evals ≡ counted evals (edge_points (error_at fixed i) (point lo y_lo) (point x y))) }
-{
-    xs[0] = lo;
-    ys[0] = y_lo;
-    let mut m = 1usize;
-    let mut n = evals;
-    for j in 1..8u64 {
-        let p = lo + (x - lo) * share(j);
-        let q = error_at(fixed, i, p);
-        n += 1;
-        m = keep_finite(p, q, xs, ys, m);
-    }
-    xs[m] = x;
-    ys[m] = y;
-    Row {
-        len: m + 1,
-        evals: n,
+    if is_finite(p.y) {
+        row.push(p);
     }
 }
 
-// The first m numbers of `a`, the last of them first.
-pub fn reverse_row(a: &[f64], m: usize, b: &mut [f64])
-    requires { (m ≤ length a.now) × (m ≤ length b.old) }
-    ensures { ((j : ℕ) → j < m → slice_index_or b.new j nan ≡ slice_index_or a.now (m - 1 - j) nan) }
+// From the branch's end e to the grid's sample p, with quadratic spacing so that the sqrt-like start is
+// resolved. Of the samples between them those are kept that are finite.
+pub fn edge_row(branch: &Branch, e: Point, p: Point) -> ArrayVec<Point, 9>
+    ensures { with_count (map point_of result.items) SUBSAMPLES ≡ total (edge_points (branch_error branch.now) (point_of e) (point_of p)) }
 {
-    let mut k = 0usize;
-    while k < m {
-        b[k] = a[m - 1 - k];
-        k += 1;
+    let mut row: ArrayVec<Point, 9> = ArrayVec::new();
+    row.push(e);
+    for j in 1..SUBSAMPLES + 1 {
+        let x = e.x + (p.x - e.x) * share(j);
+        let y = branch.error(x);
+        keep_finite(&mut row, Point { x, y });
     }
+    row.push(p);
+    row
 }
 
+// What is found towards the end of a branch, whose samples go from the left to the right.
 pub fn scan_edge(
-    fixed: Fixed,
-    i: u8,
+    branch: &Branch,
     g: Gap,
     qs: &mut [f64],
     cs: &mut [u8],
-    pairs: usize,
+    f: SearchCounts,
 ) -> SearchCounts
-    requires { (i < 4) × (pairs ≤ 800000) × (g.evals ≤ 800000000) }
-    ensures { ((o : Place → Origin) → ((p : Place) → component (o p) ≡ i) → state qs.new cs.new result ≡ afterwards (held qs.old cs.old pairs g.evals) (edge_from (error_at fixed i) o (gap g))) }
+    requires { Roomy 800000 f }
+    ensures { (o : Place → Origin) → ((p : Place) → component (o p) ≡ branch.now.i) → state qs.new cs.new result ≡ afterwards (state qs.old cs.old f) (edge_from (branch_error branch.now) o (gap g)) }
 {
-    let e = bisect(fixed, i as usize, g);
-    let mut xs = [0.0; 9];
-    let mut ys = [0.0; 9];
-    let lo = e.x;
-    let x = g.x;
-    let r = edge_row(
-        fixed, i as usize, lo, e.y, x, g.y, e.evals, &mut xs, &mut ys,
-    );
-    let m = r.len;
-    let h = SearchCounts {
-        pairs,
-        evals: r.evals,
-    };
-    if x < lo {
-        let mut us = [0.0; 9];
-        let mut vs = [0.0; 9];
-        reverse_row(&xs, m, &mut us);
-        reverse_row(&ys, m, &mut vs);
-        return scan_samples(fixed, i, &us, &vs, 0, m, qs, cs, h);
+    let e = bisect(branch, g);
+    let mut row = edge_row(branch, e.inside, g.inside);
+    if g.inside.x < e.inside.x {
+        row.reverse();
     }
-    scan_samples(fixed, i, &xs, &ys, 0, m, qs, cs, h)
+    let evals = f.evals + HALVINGS + SUBSAMPLES;
+    scan_samples(
+        branch,
+        &row,
+        0,
+        row.len(),
+        qs,
+        cs,
+        SearchCounts { evals, ..f },
+    )
 }
 
 // What is found at the edge, if there is one, between the grid's samples k and k + 1.
 pub fn edge_at(
-    fixed: Fixed,
-    i: u8,
-    xs: &[f64],
-    ys: &[f64],
+    branch: &Branch,
+    row: &[Point],
     k: usize,
     qs: &mut [f64],
     cs: &mut [u8],
     f: SearchCounts,
 ) -> SearchCounts
-    requires { (i < 4) × (k + 1 < length xs.now) × (k + 1 < length ys.now) × (f.pairs ≤ 800000) × (f.evals ≤ 800000000) }
-    ensures { state qs.new cs.new result ≡ afterwards (state qs.old cs.old f) (edge_at (error_at fixed i) i (row xs.now ys.now) k) }
+    requires { (k + 1 < length row.now) × Roomy 800000 f }
+    ensures { state qs.new cs.new result ≡ afterwards (state qs.old cs.old f) (edge_at (branch_error branch.now) branch.now.i (points row.now) k) }
 {
-    let x0 = xs[k];
-    let y0 = ys[k];
-    let x1 = xs[k + 1];
-    let y1 = ys[k + 1];
-    let a = is_finite(y0);
-    let b = is_finite(y1);
-    if a == b {
+    let p = row[k];
+    let q = row[k + 1];
+    let first = is_finite(p.y);
+    if first == is_finite(q.y) {
         return f;
     }
-    if a {
-        let g = Gap {
-            x: x0,
-            y: y0,
-            out: x1,
-            evals: f.evals,
-        };
-        return scan_edge(fixed, i, g, qs, cs, f.pairs);
-    }
-    let g = Gap {
-        x: x1,
-        y: y1,
-        out: x0,
-        evals: f.evals,
+    let g = if first {
+        Gap {
+            inside: p,
+            outside: q.x,
+        }
+    } else {
+        Gap {
+            inside: q,
+            outside: p.x,
+        }
     };
-    scan_edge(fixed, i, g, qs, cs, f.pairs)
+    scan_edge(branch, g, qs, cs, f)
 }

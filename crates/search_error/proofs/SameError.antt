@@ -5,10 +5,10 @@ use lib.Ieee.{Float, nan}
 use lib.ListN.{get_or, replicate}
 use lib.Seq.{sets}
 use Rattle.float.specs.Num.{infinity}
-use Rattle.linear.specs.Matrix.{Matrix, row, array3, product, row_apply, rot}
+use Rattle.linear.specs.Matrix.{Matrix, product, row_apply, rot}
 use Rattle.linear.specs.declared.vector.Vector3.{Vector3}
-use Rattle.solutionset.specs.PairSet4.{get_all}
-use Rattle.solutionset.specs.declared.pairs.Pair.{Pair}
+use Rattle.solutionset.specs.SolutionSet4.{get_all}
+use Rattle.solutionset.specs.declared.Pair.{Pair}
 use Rattle.subproblems.specs.Subproblem1.{subproblem1_within, subproblem1}
 use Rattle.kinematics.specs.declared.Kinematics.{Kinematics}
 use Rattle.search_error.specs.Error as Plain
@@ -16,11 +16,6 @@ use Rattle.search_error.specs.Error.{t64_given_q1, error_given_q1, error_i}
 use Rattle.search_error.specs.Fixed.{fixed, given_q1, t64, t23, gap, answer_error, error_of, error_at}
 
 module _ (kin : Kinematics) (r_06 : Matrix) (p_0t : Vector3) where
-  -- a matrix that is taken apart into its rows and put together again
-  product_left : (a b : Matrix) → product (array3 (row a 0) (row a 1) (row a 2)) b ≡ product a b
-  unfolding product
-  product_left a b = refl
-
   pub t64_same : (q1 : Float) → t64 (fixed kin r_06 p_0t) (given_q1 (fixed kin r_06 p_0t) q1) ≡ t64_given_q1 kin r_06 p_0t q1
   unfolding t64 t64_given_q1 given_q1 fixed rot row_apply
   t64_same q1 = refl

@@ -17,8 +17,8 @@ use Rattle.float.specs.Sine.{sin}
 use Rattle.linear.specs.Vector.{norm}
 use Rattle.linear.specs.Matrix.{Matrix, part, row, apply, transpose, rodrigues, rot_unit, rot}
 use Rattle.linear.specs.declared.vector.Vector3.{Vector3}
-use Rattle.solutionset.specs.PairSet4.{get_all}
-use Rattle.solutionset.specs.declared.pairs.Pair.{Pair}
+use Rattle.solutionset.specs.SolutionSet4.{get_all}
+use Rattle.solutionset.specs.declared.Pair.{Pair}
 use Rattle.kinematics.specs.declared.Kinematics.{Kinematics}
 use Rattle.search_definition.specs.Demand.{Strict}
 use Rattle.families_shared.specs.Place.{p_16}

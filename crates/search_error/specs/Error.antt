@@ -8,9 +8,9 @@ use Rattle.float.specs.Num.{◌⊖◌, ◌⊘◌, nought, infinity}
 use Rattle.linear.specs.Vector.{dot, norm, ◌-ᵛ◌, negᵛ}
 use Rattle.linear.specs.Matrix.{Matrix, product, apply, row_apply, transpose, rot}
 use Rattle.linear.specs.declared.vector.Vector3.{Vector3}
-use Rattle.solutionset.specs.PairSet4.{get_all, size}
-use Rattle.solutionset.specs.declared.pairs.Pair.{Pair}
-use Rattle.solutionset.specs.declared.pairs.PairSet4.{PairSet4}
+use Rattle.solutionset.specs.SolutionSet4.{get_all, size}
+use Rattle.solutionset.specs.declared.Pair.{Pair}
+use Rattle.solutionset.specs.declared.set4.SolutionSet4.{SolutionSet4}
 use Rattle.subproblems.specs.Subproblem1.{subproblem1}
 use Rattle.subproblem6.specs.Subproblem6.{subproblem6}
 use Rattle.kinematics.specs.declared.Kinematics.{Kinematics}
@@ -26,7 +26,7 @@ max_positive x = cond (lt min_positive x) x min_positive
 
 module _ (kin : Kinematics) (r_06 : Matrix) (p_0t : Vector3) where
   -- subproblem 6's answers (t6, t4) at q1
-  unfoldable pub t64_given_q1 : Float → PairSet4
+  unfoldable pub t64_given_q1 : Float → SolutionSet4 Pair
   t64_given_q1 q1 =
       let r-01 = rot kin.h1 q1 in
       let h1 = row_apply (row_apply kin.h2 (transpose r-01)) r_06 in

@@ -4,11 +4,11 @@ use Rattle.std.specs.Float.{nan}
 use Rattle.std.proofs.lemmas.List.Edits.{sets}
 use Rattle.float.specs.Num.{◌⊖◌, ◌⊘◌, nought, infinity}
 use Rattle.linear.specs.Vector.{dot, norm, normalize, ◌-ᵛ◌, negᵛ}
-use Rattle.linear.specs.Matrix.{Matrix, row, array3, product, apply, row_apply, transpose, rot_unit}
+use Rattle.linear.specs.Matrix.{Matrix, product, apply, row_apply, transpose, rot_unit}
 use Rattle.linear.specs.declared.vector.Vector3.{Vector3}
-use Rattle.solutionset.specs.PairSet4.{get_all}
-use Rattle.solutionset.specs.declared.pairs.Pair.{Pair}
-use Rattle.solutionset.specs.declared.pairs.PairSet4.{PairSet4}
+use Rattle.solutionset.specs.SolutionSet4.{get_all}
+use Rattle.solutionset.specs.declared.Pair.{Pair}
+use Rattle.solutionset.specs.declared.set4.SolutionSet4.{SolutionSet4}
 use Rattle.subproblems.specs.Subproblem1.{subproblem1_theta}
 use Rattle.subproblem6.specs.Subproblem6.{subproblem6}
 use Rattle.kinematics.specs.declared.Kinematics.{Kinematics}
@@ -16,6 +16,7 @@ use Rattle.families_shared.specs.Place.{p_16}
 use Rattle.search_error.specs.Error.{max_positive}
 use Rattle.search_error.specs.declared.Fixed.{Fixed}
 use Rattle.search_error.specs.declared.GivenQ1.{GivenQ1}
+use Rattle.search_error.specs.declared.component.Branch.{Branch}
 
 unfoldable pub fixed : Kinematics → Matrix → Vector3 → Fixed
 fixed kin r_06 p_0t =
@@ -27,35 +28,22 @@ fixed kin r_06 p_0t =
       u6 = normalize kin.h6;
       minus_h5 = negᵛ kin.h5;
       minus_h6 = negᵛ kin.h6;
-      row1 = row r_06 0;
-      row2 = row r_06 1;
-      row3 = row r_06 2;
+      r_06 = r_06;
       p_16 = p_16 r_06 p_0t kin;
       l2 = max_positive (norm kin.p2);
     }
 
--- r_06
-abbrev pub rotation : Fixed → Matrix
-rotation g = array3 g.row1 g.row2 g.row3
-
--- what q1 gives to all answers: r_01^T r_06 by rows, the first of subproblem 6's vectors h, and r_01^T p_16 - p1
+-- what q1 gives to all answers: r_01^T r_06, the first of subproblem 6's vectors h, and r_01^T p_16 - p1
 unfoldable pub given_q1 : Fixed → Float → GivenQ1
 given_q1 g q1 =
     let r-10 = transpose (rot_unit g.u1 q1) in
-    let r-16 = product r-10 (rotation g) in
     record {
-      row1 = row r-16 0;
-      row2 = row r-16 1;
-      row3 = row r-16 2;
-      h = row_apply (row_apply g.kin.h2 r-10) (rotation g);
+      rotation = product r-10 g.r_06;
+      h = row_apply (row_apply g.kin.h2 r-10) g.r_06;
       p = apply r-10 g.p_16 -ᵛ g.kin.p1;
     }
 
--- r_01^T r_06
-abbrev pub rotation_given_q1 : GivenQ1 → Matrix
-rotation_given_q1 t = array3 t.row1 t.row2 t.row3
-
-unfoldable pub t64 : Fixed → GivenQ1 → PairSet4
+unfoldable pub t64 : Fixed → GivenQ1 → SolutionSet4 Pair
 t64 g t =
     let d1 = dot g.kin.h2 (t.p -ᵛ g.kin.p2 -ᵛ g.kin.p3) in
     subproblem6 (t.h ∷ g.kin.h2 ∷ t.h ∷ g.kin.h2 ∷ []) (g.minus_h6 ∷ g.kin.h4 ∷ g.minus_h6 ∷ g.kin.h4 ∷ []) (g.kin.p5 ∷ g.kin.p4 ∷ g.kin.h5 ∷ g.minus_h5 ∷ []) d1 nought
@@ -71,7 +59,7 @@ gap g t r-16 r-34 =
 
 unfoldable pub answer_error : Fixed → GivenQ1 → Pair → Float
 answer_error g t a =
-    let r-16 = product (rotation_given_q1 t) (transpose (rot_unit g.u6 a.first)) in
+    let r-16 = product t.rotation (transpose (rot_unit g.u6 a.first)) in
     let r-34 = rot_unit g.u4 a.second in
     (gap g t r-16 r-34 ⊖ g.l2) ⊘ g.l2
 
@@ -82,3 +70,7 @@ error_of g q1 =
 
 unfoldable pub error_at : Fixed → ℕ → Float → Float
 error_at g i q1 = get_or (error_of g q1) i nan
+
+-- the error of one component
+abbrev pub branch_error : Branch → Float → Float
+branch_error b = error_at b.fixed b.i

@@ -2,13 +2,15 @@
 // components.
 #![tactic(auto)]
 
-ghost use Rattle.std.specs.Prelude.{◌≡◌, ◌<◌, ◌≤◌, set};
+ghost use Rattle.std.specs.Prelude.{◌≡◌, ◌≤◌, set};
 ghost use Rattle.search_definition.specs.Found.{Origin, component};
 ghost use Rattle.search_definition.specs.Dip.{entry, refined};
-ghost use Rattle.search_error.specs.Fixed.{error_at};
-ghost use Rattle.search_pairs.specs.State.{point, state, afterwards};
+ghost use Rattle.search_error.specs.Fixed.{branch_error};
+ghost use Rattle.search_refine.specs.Point.{point_of};
+ghost use Rattle.search_pairs.specs.State.{Roomy, state, afterwards};
 
-use search_error::Fixed;
+use search_error::Branch;
+use search_refine::Point;
 use search_refine::refine::refine_bracket;
 
 // How many pairs are in the lists, and the evaluations so far.
@@ -18,20 +20,12 @@ pub struct SearchCounts {
     pub evals: u64,
 }
 
-// A pair is written where there is room.
-pub fn put_angle(qs: &mut [f64], at: usize, q: f64)
-    ensures { qs.new ≡ set qs.old at q }
+// A value is written where there is room.
+fn put<T: Copy>(list: &mut [T], at: usize, value: T)
+    ensures { list.new ≡ set list.old at value }
 {
-    if at < qs.len() {
-        qs[at] = q;
-    }
-}
-
-pub fn put_component(cs: &mut [u8], at: usize, i: u8)
-    ensures { cs.new ≡ set cs.old at i }
-{
-    if at < cs.len() {
-        cs[at] = i;
+    if at < list.len() {
+        list[at] = value;
     }
 }
 
@@ -40,36 +34,27 @@ pub fn put_pair(i: u8, x: f64, qs: &mut [f64], cs: &mut [u8], f: SearchCounts) -
     requires { f.pairs ≤ 2000000 }
     ensures { (o : Origin) → component o ≡ i → state qs.new cs.new result ≡ afterwards (state qs.old cs.old f) (entry x o) }
 {
-    let at = f.pairs;
-    put_angle(qs, at, x);
-    put_component(cs, at, i);
+    put(qs, f.pairs, x);
+    put(cs, f.pairs, i);
     SearchCounts {
-        pairs: at + 1,
-        evals: f.evals,
+        pairs: f.pairs + 1,
+        ..f
     }
 }
 
 // The pair of one refinement.
 pub fn put_refined(
-    fixed: Fixed,
-    i: u8,
-    a: f64,
-    b: f64,
-    fa: f64,
-    fb: f64,
+    branch: &Branch,
+    a: Point,
+    b: Point,
     qs: &mut [f64],
     cs: &mut [u8],
     f: SearchCounts,
 ) -> SearchCounts
-    requires { (i < 4) × (f.pairs ≤ 2000000) × (f.evals ≤ 2000000000) }
-    ensures { (o : Origin) → component o ≡ i → state qs.new cs.new result ≡ afterwards (state qs.old cs.old f) (refined (error_at fixed i) o (point a fa) (point b fb)) }
+    requires { Roomy 2000000 f }
+    ensures { (o : Origin) → component o ≡ branch.now.i → state qs.new cs.new result ≡ afterwards (state qs.old cs.old f) (refined (branch_error branch.now) o (point_of a) (point_of b)) }
 {
-    let root = refine_bracket(fixed, i as usize, a, b, fa, fb);
-    let evals = f.evals;
-    let more = root.evals;
-    let h = SearchCounts {
-        pairs: f.pairs,
-        evals: evals + more,
-    };
-    put_pair(i, root.x, qs, cs, h)
+    let root = refine_bracket(branch, a, b);
+    let evals = f.evals + root.evals;
+    put_pair(branch.i, root.x, qs, cs, SearchCounts { evals, ..f })
 }

@@ -1,1 +1,3 @@
 pub mod Counted
+pub mod Bracket
+pub mod Point

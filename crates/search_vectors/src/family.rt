@@ -2,6 +2,9 @@
 ghost use Rattle.std.specs.Prelude.{◌<◌, ◌≤◌};
 
 use crate::record;
+use cases::Tally;
+use full_list::Task;
+use refusals::Family;
 
 fn is_answer(book: &[u8; 1830400], j: usize, angles: &[f64; 105600], flag: u8) -> bool
     requires { j < 17600 }
@@ -22,7 +25,7 @@ fn check_answers(
     m: usize,
     angles: &[f64; 105600],
     flags: &[u8; 17600],
-    tally: &mut [u64; 64],
+    tally: &mut Tally,
 )
     requires { m ≤ 17600 }
 {
@@ -48,21 +51,15 @@ fn write_answers(
     let mut cs = [0u8; 17600];
     let arm = record::arm_numbers(head);
     let pose = record::pose_numbers(head);
-    let none = [0.0; 1];
-    let list = full_list::search(n, &arm, &pose, &mut qs, &mut cs);
+    let task = Task::new(Family::TwoParallel, n as u64, &arm, &pose);
+    let pairs = full_list::search(&task, &mut qs, &mut cs);
     Counts {
-        answers: full_list::write_allowed(list, &arm, &pose, &qs, &cs, &none[0..0], angles, flags),
-        evals: list.evals,
+        answers: pairs.write_allowed(&[], angles, flags),
+        evals: pairs.evals,
     }
 }
 
-pub(crate) fn check(
-    head: &[u8; 432],
-    book: &[u8; 1830400],
-    n: usize,
-    m: usize,
-    tally: &mut [u64; 64],
-)
+pub(crate) fn check(head: &[u8; 432], book: &[u8; 1830400], n: usize, m: usize, tally: &mut Tally)
     requires { m ≤ 17600 }
 {
     let mut angles = [0.0; 105600];

@@ -2,6 +2,7 @@
 ghost use Rattle.std.specs.Prelude.{◌≤◌};
 
 use crate::record;
+use cases::Tally;
 use search::SearchCounts;
 
 fn check_pairs(
@@ -9,7 +10,7 @@ fn check_pairs(
     m: usize,
     qs: &[f64; 17600],
     cs: &[u8; 17600],
-    tally: &mut [u64; 64],
+    tally: &mut Tally,
 )
     requires { m ≤ 17600 }
 {
@@ -24,7 +25,7 @@ pub(crate) fn check(
     book: &[u8; 1830400],
     n: usize,
     m: usize,
-    tally: &mut [u64; 64],
+    tally: &mut Tally,
 ) -> SearchCounts
     requires { m ≤ 17600 }
 {

@@ -18,6 +18,7 @@ mod rows;
 
 ghost use Rattle.std.specs.Prelude.{◌≤◌, length};
 
+use cases::Tally;
 use std::io;
 use std::io::{Stdin, Stdout};
 
@@ -25,8 +26,23 @@ const MOST_PAIRS: u64 = 17600;
 
 const MOST_SAMPLES: u64 = 400;
 
-fn larger(a: u64, b: u64) -> u64 {
-    if a < b { b } else { a }
+// The entries in the tally, as record.rt numbers them.
+const NAMES: [&str; 8] = [
+    "searches",
+    "pairs",
+    "parts",
+    "rows",
+    "places",
+    "crossings",
+    "solves",
+    "answers",
+];
+
+// The most pairs and the most evaluations of one of the port's searches.
+#[derive(Clone, Copy)]
+struct Most {
+    pairs: u64,
+    evals: u64,
 }
 
 // All checks of one search, whose m pairs are in the book.
@@ -35,48 +51,40 @@ fn check_search(
     book: &[u8; 1830400],
     n: usize,
     m: usize,
-    tally: &mut [u64; 64],
-    most: &mut [u64; 2],
+    tally: &mut Tally,
+    most: &mut Most,
 )
     requires { (n ≤ 400) × (m ≤ 17600) }
 {
     let f = list::check(head, book, n, m, tally);
-    most[0] = larger(most[0], f.pairs as u64);
-    most[1] = larger(most[1], f.evals);
+    most.pairs = most.pairs.max(f.pairs as u64);
+    most.evals = most.evals.max(f.evals);
     parts::check(head, book, n, m, tally);
     family::check(head, book, n, m, tally);
 }
 
 // What is no search is a mismatch, and ends the run: where the next one begins is not known.
-fn refuse(tally: &mut [u64; 64]) -> bool {
+fn refuse(tally: &mut Tally) -> bool {
     cases::count(tally, record::CHECKS, record::CHECKS, false);
     false
 }
 
 // Reads the pairs of a search, which take so many bytes.
-fn read_pairs(input: &mut Stdin, book: &mut [u8], end: usize, tally: &mut [u64; 64]) -> bool
+fn read_pairs(input: &mut Stdin, book: &mut [u8], end: usize, tally: &mut Tally) -> bool
     requires { end ≤ length book.old }
 {
     cases::next(input, &mut book[0..end], tally)
 }
 
 // Checks one search, and answers whether there was a whole one.
-fn check(
-    input: &mut Stdin,
-    book: &mut [u8; 1830400],
-    tally: &mut [u64; 64],
-    most: &mut [u64; 2],
-) -> bool {
+fn check(input: &mut Stdin, book: &mut [u8; 1830400], tally: &mut Tally, most: &mut Most) -> bool {
     let mut head = [0u8; 432];
     if !cases::next(input, &mut head, tally) {
         return false;
     }
     let n = cases::word(&head, record::N);
     let m = cases::word(&head, record::PAIRS);
-    if n > MOST_SAMPLES {
-        return refuse(tally);
-    }
-    if m > MOST_PAIRS {
+    if n > MOST_SAMPLES || m > MOST_PAIRS {
         return refuse(tally);
     }
     if !read_pairs(input, book, 104 * (m as usize), tally) {
@@ -87,12 +95,7 @@ fn check(
 }
 
 // Input of any length: no run uses up the turns.
-fn check_all(
-    input: &mut Stdin,
-    book: &mut [u8; 1830400],
-    tally: &mut [u64; 64],
-    most: &mut [u64; 2],
-) {
+fn check_all(input: &mut Stdin, book: &mut [u8; 1830400], tally: &mut Tally, most: &mut Most) {
     for _ in 0..u64::MAX {
         if !check(input, book, tally, most) {
             return;
@@ -100,31 +103,18 @@ fn check_all(
     }
 }
 
-fn report(out: &Stdout, tally: &[u64; 64]) -> io::Result<()> {
-    cases::line(out, b"searches", tally, 0)?;
-    cases::line(out, b"pairs", tally, 1)?;
-    cases::line(out, b"parts", tally, 2)?;
-    cases::line(out, b"rows", tally, 3)?;
-    cases::line(out, b"places", tally, 4)?;
-    cases::line(out, b"crossings", tally, 5)?;
-    cases::line(out, b"solves", tally, 6)?;
-    cases::line(out, b"answers", tally, 7)?;
-    cases::end(out, tally)
-}
-
-// Of the port's searches.
-fn report_most(out: &Stdout, most: &[u64; 2]) -> io::Result<()> {
-    let pairs = most[0];
-    let evals = most[1];
+fn report_most(out: &Stdout, most: &Most) -> io::Result<()> {
+    let pairs = most.pairs;
+    let evals = most.evals;
     println!(out; "most pairs {pairs} evaluations {evals}")
 }
 
 fn main(rt: HostRuntime) -> io::Result<()> {
     let out = rt.stdout();
     let mut book = [0u8; 1830400];
-    let mut tally = [0u64; 64];
-    let mut most = [0u64; 2];
+    let mut tally = cases::no_cases();
+    let mut most = Most { pairs: 0, evals: 0 };
     check_all(&mut rt.stdin(), &mut book, &mut tally, &mut most);
-    report(&out, &tally)?;
+    cases::report(&out, &tally, 0, &NAMES)?;
     report_most(&out, &most)
 }

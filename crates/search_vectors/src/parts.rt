@@ -4,9 +4,11 @@
 ghost use Rattle.std.specs.Prelude.{◌<◌, ◌≤◌};
 
 use crate::{place, record, rows};
+use cases::Tally;
 use float::is_finite;
 use search::SearchCounts;
-use search_error::Fixed;
+use search_error::{Branch, Fixed};
+use search_refine::Point;
 
 fn check_rows(
     book: &[u8; 1830400],
@@ -14,7 +16,7 @@ fn check_rows(
     qs: &[f64; 17600],
     cs: &[u8; 17600],
     rows: &[u64; 17600],
-    tally: &mut [u64; 64],
+    tally: &mut Tally,
 )
     requires { m ≤ 17600 }
 {
@@ -43,73 +45,110 @@ fn stored_crossings(book: &[u8; 1830400], m: usize, i: u64) -> u64
 
 // Both are finite, one is negative and one is not.
 fn crosses(y0: f64, y1: f64) -> bool {
-    is_finite(y0) && is_finite(y1) && !((y0 < 0.0) == (y1 < 0.0))
+    is_finite(y0) && is_finite(y1) && (y0 < 0.0) != (y1 < 0.0)
 }
 
-fn crossings(ys: &[f64; 401], n: usize) -> u64
+fn crossings(row: &[Point; 401], n: usize) -> u64
     requires { n ≤ 400 }
 {
     let mut count = 0u64;
     for k in 0..n {
-        if crosses(ys[k], ys[k + 1]) {
+        if crosses(row[k].y, row[k + 1].y) {
             count = count.wrapping_add(1);
         }
     }
     count
 }
 
-// The pairs of component i by their places, and its crossings.
+// The pairs of the branch's component by their places, and its crossings.
 fn check_places(
-    fixed: Fixed,
-    i: u8,
+    branch: &Branch,
     n: usize,
-    xs: &[f64; 401],
-    ys: &[f64; 401],
+    row: &[Point; 401],
     book: &[u8; 1830400],
     m: usize,
-    tally: &mut [u64; 64],
+    tally: &mut Tally,
 )
-    requires { (i < 4) × (n ≤ 400) × (m ≤ 17600) }
+    requires { (n ≤ 400) × (m ≤ 17600) }
 {
-    let ok = crossings(ys, n) == stored_crossings(book, m, i as u64);
+    let i = branch.i as u64;
+    let ok = crossings(row, n) == stored_crossings(book, m, i);
     cases::count(tally, record::CHECKS, record::CROSSINGS, ok);
     for j in 0..m {
-        if record::word(book, j, record::COMPONENT) == i as u64 {
-            let is = place::right(fixed, i, n, xs, ys, book, j);
+        if record::word(book, j, record::COMPONENT) == i {
+            let is = place::right(branch, n, row, book, j);
             cases::count(tally, record::CHECKS, record::PLACES, is);
         }
     }
 }
 
 fn check_components(
-    fixed: Fixed,
+    fixed: &Fixed,
     n: usize,
-    xs: &[f64; 401],
-    y0: &[f64; 401],
-    y1: &[f64; 401],
-    y2: &[f64; 401],
-    y3: &[f64; 401],
+    r0: &[Point; 401],
+    r1: &[Point; 401],
+    r2: &[Point; 401],
+    r3: &[Point; 401],
     book: &[u8; 1830400],
     m: usize,
-    tally: &mut [u64; 64],
+    tally: &mut Tally,
 )
     requires { (n ≤ 400) × (m ≤ 17600) }
 {
-    check_places(fixed, 0, n, xs, y0, book, m, tally);
-    check_places(fixed, 1, n, xs, y1, book, m, tally);
-    check_places(fixed, 2, n, xs, y2, book, m, tally);
-    check_places(fixed, 3, n, xs, y3, book, m, tally);
+    check_places(
+        &Branch {
+            fixed: *fixed,
+            i: 0,
+        },
+        n,
+        r0,
+        book,
+        m,
+        tally,
+    );
+    check_places(
+        &Branch {
+            fixed: *fixed,
+            i: 1,
+        },
+        n,
+        r1,
+        book,
+        m,
+        tally,
+    );
+    check_places(
+        &Branch {
+            fixed: *fixed,
+            i: 2,
+        },
+        n,
+        r2,
+        book,
+        m,
+        tally,
+    );
+    check_places(
+        &Branch {
+            fixed: *fixed,
+            i: 3,
+        },
+        n,
+        r3,
+        book,
+        m,
+        tally,
+    );
 }
 
 // The rows' pairs, one after the other.
 fn list(
-    fixed: Fixed,
+    fixed: &Fixed,
     n: usize,
-    xs: &[f64; 401],
-    y0: &[f64; 401],
-    y1: &[f64; 401],
-    y2: &[f64; 401],
-    y3: &[f64; 401],
+    r0: &[Point; 401],
+    r1: &[Point; 401],
+    r2: &[Point; 401],
+    r3: &[Point; 401],
     qs: &mut [f64; 17600],
     cs: &mut [u8; 17600],
     rows: &mut [u64; 17600],
@@ -117,26 +156,69 @@ fn list(
 ) -> SearchCounts
     requires { n ≤ 400 }
 {
-    let f0 = rows::component(fixed, 0, n, xs, y0, qs, cs, rows, f);
-    let f1 = rows::component(fixed, 1, n, xs, y1, qs, cs, rows, f0);
-    let f2 = rows::component(fixed, 2, n, xs, y2, qs, cs, rows, f1);
-    rows::component(fixed, 3, n, xs, y3, qs, cs, rows, f2)
+    let f0 = rows::component(
+        &Branch {
+            fixed: *fixed,
+            i: 0,
+        },
+        n,
+        r0,
+        qs,
+        cs,
+        rows,
+        f,
+    );
+    let f1 = rows::component(
+        &Branch {
+            fixed: *fixed,
+            i: 1,
+        },
+        n,
+        r1,
+        qs,
+        cs,
+        rows,
+        f0,
+    );
+    let f2 = rows::component(
+        &Branch {
+            fixed: *fixed,
+            i: 2,
+        },
+        n,
+        r2,
+        qs,
+        cs,
+        rows,
+        f1,
+    );
+    rows::component(
+        &Branch {
+            fixed: *fixed,
+            i: 3,
+        },
+        n,
+        r3,
+        qs,
+        cs,
+        rows,
+        f2,
+    )
 }
 
 // They are the whole list, and their evaluations and the grid's are all.
 fn check_list(
     head: &[u8; 432],
-    fixed: Fixed,
+    fixed: &Fixed,
     n: usize,
-    xs: &[f64; 401],
-    y0: &[f64; 401],
-    y1: &[f64; 401],
-    y2: &[f64; 401],
-    y3: &[f64; 401],
+    r0: &[Point; 401],
+    r1: &[Point; 401],
+    r2: &[Point; 401],
+    r3: &[Point; 401],
     book: &[u8; 1830400],
     m: usize,
     evals: u64,
-    tally: &mut [u64; 64],
+    tally: &mut Tally,
 )
     requires { (n ≤ 400) × (m ≤ 17600) }
 {
@@ -144,9 +226,7 @@ fn check_list(
     let mut cs = [0u8; 17600];
     let mut rows = [0u64; 17600];
     let none = SearchCounts { pairs: 0, evals };
-    let f = list(
-        fixed, n, xs, y0, y1, y2, y3, &mut qs, &mut cs, &mut rows, none,
-    );
+    let f = list(fixed, n, r0, r1, r2, r3, &mut qs, &mut cs, &mut rows, none);
     let ok = record::counts(head, f.pairs as u64, f.evals);
     cases::count(tally, record::CHECKS, record::PARTS, ok);
     check_rows(book, m, &qs, &cs, &rows, tally);
@@ -160,24 +240,16 @@ fn fixed(head: &[u8; 432]) -> Fixed {
     )
 }
 
-pub(crate) fn check(
-    head: &[u8; 432],
-    book: &[u8; 1830400],
-    n: usize,
-    m: usize,
-    tally: &mut [u64; 64],
-)
+pub(crate) fn check(head: &[u8; 432], book: &[u8; 1830400], n: usize, m: usize, tally: &mut Tally)
     requires { (n ≤ 400) × (m ≤ 17600) }
 {
     let from = fixed(head);
-    let mut xs = [0.0; 401];
-    let mut y0 = [0.0; 401];
-    let mut y1 = [0.0; 401];
-    let mut y2 = [0.0; 401];
-    let mut y3 = [0.0; 401];
-    let evals = search::sample_grid(from, n, &mut xs, &mut y0, &mut y1, &mut y2, &mut y3);
-    check_list(
-        head, from, n, &xs, &y0, &y1, &y2, &y3, book, m, evals, tally,
-    );
-    check_components(from, n, &xs, &y0, &y1, &y2, &y3, book, m, tally);
+    let none = Point { x: 0.0, y: 0.0 };
+    let mut r0 = [none; 401];
+    let mut r1 = [none; 401];
+    let mut r2 = [none; 401];
+    let mut r3 = [none; 401];
+    let evals = search::sample_grid(&from, n, &mut r0, &mut r1, &mut r2, &mut r3);
+    check_list(head, &from, n, &r0, &r1, &r2, &r3, book, m, evals, tally);
+    check_components(&from, n, &r0, &r1, &r2, &r3, book, m, tally);
 }

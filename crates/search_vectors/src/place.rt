@@ -4,29 +4,20 @@ ghost use Rattle.std.specs.Prelude.{◌+◌, ◌<◌, ◌≤◌, length};
 use crate::record;
 use float::is_finite;
 use search_edge::edge::Gap;
-use search_error::Fixed;
+use search_error::Branch;
 use search_pairs::SearchCounts;
+use search_refine::Point;
 
 // A crossing between the samples l and l + 1.
-fn crossing(
-    fixed: Fixed,
-    i: u8,
-    xs: &[f64],
-    ys: &[f64],
-    l: usize,
-    book: &[u8; 1830400],
-    j: usize,
-) -> bool
-    requires { (i < 4) × (j < 17600) × (l + 1 < length xs.now) × (l + 1 < length ys.now) }
+fn crossing(branch: &Branch, row: &[Point], l: usize, book: &[u8; 1830400], j: usize) -> bool
+    requires { (j < 17600) × (l + 1 < length row.now) }
 {
-    let x0 = xs[l];
-    let x1 = xs[l + 1];
-    let y0 = ys[l];
-    let y1 = ys[l + 1];
-    let root = search_refine::refine::refine_bracket(fixed, i as usize, x0, x1, y0, y1);
+    let a = row[l];
+    let b = row[l + 1];
+    let root = search_refine::refine::refine_bracket(branch, a, b);
     let is_q1 = record::gives(book, j, record::Q1, root.x);
     let is_whole = record::word(book, j, record::PART) == 0;
-    is_q1 && is_whole && !((y0 < 0.0) == (y1 < 0.0))
+    is_q1 && is_whole && (a.y < 0.0) != (b.y < 0.0)
 }
 
 // Whether pair j is that part of a dip whose pairs are these.
@@ -42,54 +33,33 @@ fn is_part(book: &[u8; 1830400], j: usize, pairs: usize, q0: f64, q1: f64) -> bo
 }
 
 // A dip between the samples a and b.
-fn dip(
-    fixed: Fixed,
-    i: u8,
-    xs: &[f64],
-    ys: &[f64],
-    a: usize,
-    b: usize,
-    book: &[u8; 1830400],
-    j: usize,
-) -> bool
-    requires { (i < 4) × (j < 17600) × (a < b) × (b < length xs.now) × (b < length ys.now) }
+fn dip(branch: &Branch, row: &[Point], a: usize, b: usize, book: &[u8; 1830400], j: usize) -> bool
+    requires { (j < 17600) × (a < b) × (b < length row.now) }
 {
     let mut qs = [0.0; 2];
     let mut cs = [0u8; 2];
-    let x0 = xs[a];
-    let x1 = xs[b];
-    let y0 = ys[a];
-    let y1 = ys[b];
     let none = SearchCounts { pairs: 0, evals: 0 };
-    let f = search_dip::dip::minimise_dip(fixed, i, x0, x1, y0, y1, &mut qs, &mut cs, none);
+    let f = search_dip::dip::minimise_dip(branch, row[a], row[b], &mut qs, &mut cs, none);
     is_part(book, j, f.pairs, qs[0], qs[1])
 }
 
 // Whether no run of finite samples goes on at l, in a row of m samples.
-fn ends(ys: &[f64], m: usize, l: usize) -> bool
-    requires { m ≤ length ys.now }
+fn ends(row: &[Point], m: usize, l: usize) -> bool
+    requires { m ≤ length row.now }
 {
-    if l < m { !is_finite(ys[l]) } else { true }
+    l >= m || !is_finite(row[l].y)
 }
 
 // Whether none came before l.
-fn begins(ys: &[f64], l: usize) -> bool
-    requires { l ≤ length ys.now }
+fn begins(row: &[Point], l: usize) -> bool
+    requires { l ≤ length row.now }
 {
-    if l > 0 { !is_finite(ys[l - 1]) } else { true }
+    l == 0 || !is_finite(row[l - 1].y)
 }
 
 // Whether the place that pair j has in a row of m samples gives that pair.
-fn in_row(
-    fixed: Fixed,
-    i: u8,
-    xs: &[f64],
-    ys: &[f64],
-    m: usize,
-    book: &[u8; 1830400],
-    j: usize,
-) -> bool
-    requires { (i < 4) × (j < 17600) × (m ≤ 1000) × (m ≤ length xs.now) × (m ≤ length ys.now) }
+fn in_row(branch: &Branch, row: &[Point], m: usize, book: &[u8; 1830400], j: usize) -> bool
+    requires { (j < 17600) × (m ≤ 1000) × (m ≤ length row.now) }
 {
     let at = record::word(book, j, record::INDEX);
     if at >= m as u64 {
@@ -100,70 +70,48 @@ fn in_row(
         return false;
     }
     match record::word(book, j, record::PLACE) {
-        0 => crossing(fixed, i, xs, ys, l, book, j),
-        1 => l > 0 && dip(fixed, i, xs, ys, l - 1, l + 1, book, j),
-        2 => ends(ys, m, l + 2) && dip(fixed, i, xs, ys, l, l + 1, book, j),
-        3 => begins(ys, l) && dip(fixed, i, xs, ys, l, l + 1, book, j),
+        0 => crossing(branch, row, l, book, j),
+        1 => l > 0 && dip(branch, row, l - 1, l + 1, book, j),
+        2 => ends(row, m, l + 2) && dip(branch, row, l, l + 1, book, j),
+        3 => begins(row, l) && dip(branch, row, l, l + 1, book, j),
         _ => false,
     }
 }
 
-// The branch that is at x and not at `out`: its samples towards its end, from the left to the right.
-fn in_edge(fixed: Fixed, i: u8, x: f64, y: f64, out: f64, book: &[u8; 1830400], j: usize) -> bool
-    requires { (i < 4) × (j < 17600) }
+// The branch that is at `inside` and not at `outside`: its samples towards its end, from the left to the right.
+fn in_edge(branch: &Branch, inside: Point, outside: f64, book: &[u8; 1830400], j: usize) -> bool
+    requires { j < 17600 }
 {
-    let e = search_edge::edge::bisect(
-        fixed,
-        i as usize,
-        Gap {
-            x,
-            y,
-            out,
-            evals: 0,
-        },
-    );
-    let mut xs = [0.0; 9];
-    let mut ys = [0.0; 9];
-    let lo = e.x;
-    let r = search_edge::edge::edge_row(fixed, i as usize, lo, e.y, x, y, 0, &mut xs, &mut ys);
-    let m = r.len;
-    if x < lo {
-        let mut us = [0.0; 9];
-        let mut vs = [0.0; 9];
-        search_edge::edge::reverse_row(&xs, m, &mut us);
-        search_edge::edge::reverse_row(&ys, m, &mut vs);
-        return in_row(fixed, i, &us, &vs, m, book, j);
+    let e = search_edge::edge::bisect(branch, Gap { inside, outside });
+    let mut row = search_edge::edge::edge_row(branch, e.inside, inside);
+    if inside.x < e.inside.x {
+        row.reverse();
     }
-    in_row(fixed, i, &xs, &ys, m, book, j)
+    in_row(branch, &row, row.len(), book, j)
 }
 
-// Pair j is from the grid's samples of component i, or from an edge between two of them.
+// Pair j is from the grid's samples of the branch's component, or from an edge between two of them.
 pub(crate) fn right(
-    fixed: Fixed,
-    i: u8,
+    branch: &Branch,
     n: usize,
-    xs: &[f64; 401],
-    ys: &[f64; 401],
+    row: &[Point; 401],
     book: &[u8; 1830400],
     j: usize,
 ) -> bool
-    requires { (i < 4) × (n ≤ 400) × (j < 17600) }
+    requires { (n ≤ 400) × (j < 17600) }
 {
-    let row = record::word(book, j, record::ROW);
-    if row == 0 {
-        return in_row(fixed, i, xs, ys, n + 1, book, j);
+    let at = record::word(book, j, record::ROW);
+    if at == 0 {
+        return in_row(branch, row, n + 1, book, j);
     }
-    if row > n as u64 {
+    if at > n as u64 {
         return false;
     }
-    let k = row as usize;
-    let y0 = ys[k - 1];
-    let y1 = ys[k];
-    if is_finite(y0) == is_finite(y1) {
-        return false;
+    let p = row[at as usize - 1];
+    let q = row[at as usize];
+    match (is_finite(p.y), is_finite(q.y)) {
+        (true, false) => in_edge(branch, p, q.x, book, j),
+        (false, true) => in_edge(branch, q, p.x, book, j),
+        _ => false,
     }
-    if is_finite(y0) {
-        return in_edge(fixed, i, xs[k - 1], y0, xs[k], book, j);
-    }
-    in_edge(fixed, i, xs[k], y1, xs[k - 1], book, j)
 }

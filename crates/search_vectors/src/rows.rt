@@ -3,7 +3,8 @@
 ghost use Rattle.std.specs.Prelude.{◌<◌, ◌≤◌};
 
 use search::SearchCounts;
-use search_error::Fixed;
+use search_error::Branch;
+use search_refine::Point;
 
 const ROOM: usize = 17600;
 
@@ -33,60 +34,54 @@ fn mark(rows: &mut [u64; 17600], from: usize, to: usize, row: u64) {
 }
 
 fn grid(
-    fixed: Fixed,
-    i: u8,
+    branch: &Branch,
     n: usize,
-    xs: &[f64; 401],
-    ys: &[f64; 401],
+    row: &[Point; 401],
     qs: &mut [f64; 17600],
     cs: &mut [u8; 17600],
     rows: &mut [u64; 17600],
     f: SearchCounts,
 ) -> SearchCounts
-    requires { (i < 4) × (n ≤ 400) }
+    requires { n ≤ 400 }
 {
     let g = within(f);
-    let h = search::scan_runs(fixed, i, xs, ys, n, qs, cs, g);
+    let h = search::scan_runs(branch, row, n, qs, cs, g);
     mark(rows, g.pairs, h.pairs, 0);
     h
 }
 
 fn edge(
-    fixed: Fixed,
-    i: u8,
+    branch: &Branch,
     k: usize,
-    xs: &[f64; 401],
-    ys: &[f64; 401],
+    row: &[Point; 401],
     qs: &mut [f64; 17600],
     cs: &mut [u8; 17600],
     rows: &mut [u64; 17600],
     f: SearchCounts,
 ) -> SearchCounts
-    requires { (i < 4) × (k < 400) }
+    requires { k < 400 }
 {
     let g = within(f);
-    let h = search_edge::edge::edge_at(fixed, i, xs, ys, k, qs, cs, g);
+    let h = search_edge::edge::edge_at(branch, row, k, qs, cs, g);
     mark(rows, g.pairs, h.pairs, k as u64 + 1);
     h
 }
 
 // All rows of one component.
 pub(crate) fn component(
-    fixed: Fixed,
-    i: u8,
+    branch: &Branch,
     n: usize,
-    xs: &[f64; 401],
-    ys: &[f64; 401],
+    row: &[Point; 401],
     qs: &mut [f64; 17600],
     cs: &mut [u8; 17600],
     rows: &mut [u64; 17600],
     f: SearchCounts,
 ) -> SearchCounts
-    requires { (i < 4) × (n ≤ 400) }
+    requires { n ≤ 400 }
 {
-    let mut g = grid(fixed, i, n, xs, ys, qs, cs, rows, f);
+    let mut g = grid(branch, n, row, qs, cs, rows, f);
     for k in 0..n {
-        g = edge(fixed, i, k, xs, ys, qs, cs, rows, g);
+        g = edge(branch, k, row, qs, cs, rows, g);
     }
     g
 }

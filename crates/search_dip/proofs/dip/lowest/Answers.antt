@@ -1,34 +1,25 @@
--- `lowest` meets its contract. Assumes nothing.
-use mathlib.Core.Path.{ap}
-use native.Mathlib.Omega.{arith}
-use Rattle.search_error.specs.Fixed.{error_at}
+-- Each way out of the loop, and the way on, is a step of the definition.
+use Rattle.std.proofs.Common.{ap, arith}
+use Rattle.search_error.specs.Fixed.{branch_error}
 use Rattle.search_refine.specs.Counted.{evals_of}
 use Rattle.search_dip.specs.Valley.{valley}
 use Rattle.search_dip.proofs.DipSteps.{lowest_starts, lowest_goes, lowest_leaves, lowest_ends}
 use Rattle.search_dip.proofs.dip.lowest.Goals as goal
 
-pub loop-init : goal.loop-init
-loop-init c = (omega arith, omega (arith, ap evals_of c.opened-v.ensures), lowest_starts _ _ _ _ c.opened-v.ensures)
-
-pub moved-requires : goal.moved-requires
-moved-requires c = omega (arith, c.before.loop.invariant.1)
-
-pub loop-preserved : goal.loop-preserved
-loop-preserved c =
-    let p2 = c.before.before in
-    let p5 = p2.before.before.before in
-    let a = p5.before.before.args in (
-      omega arith,
-      omega (arith, p5.loop.invariant.1, ap evals_of p2.before.moved.ensures, ap evals_of p2.best-v.ensures),
-      lowest_goes (error_at a.fixed a.i) a.sign a.a a.b (valley p5.loop.v) p5.loop.v.evals p5.loop.counter p5.loop.invariant.2 p2.before.moved.ensures p2.best-v.ensures (omega arith) c.if-v.false,
-    )
-
-pub returns-after-loop : goal.returns-after-loop
-returns-after-loop c = let p1 = c.before in lowest_ends _ _ _ _ (valley p1.loop.v) p1.loop.v.evals p1.loop.counter p1.loop.invariant.2 (omega arith)
+pub loop-k-init : goal.loop-k-init
+loop-k-init c = (ap evals_of c.opened-v.ensures, lowest_starts _ _ _ _ c.opened-v.ensures)
 
 pub returns-then-v : goal.returns-then-v
 returns-then-v c =
-    let p2 = c.before.before in
-    let p5 = p2.before.before.before in
-    let a = p5.before.before.args in
-    lowest_leaves (error_at a.fixed a.i) a.sign a.a a.b (valley p5.loop.v) p5.loop.v.evals p5.loop.counter p5.loop.invariant.2 p2.before.moved.ensures p2.best-v.ensures (omega arith) c.if-v.true
+    let a = c.args in
+    lowest_leaves (branch_error a.branch.now) a.sign a.a a.b (valley c.loop-k.v) c.loop-k.v.evals c.loop-k.k c.loop-k.invariant.1 c.moved.ensures c.best-v.ensures c.loop-k-test.true c.if-v.true
+
+pub loop-k-preserved : goal.loop-k-preserved
+loop-k-preserved c =
+    let a = c.args in (
+      omega (arith, c.loop-k.invariant.0, ap evals_of c.moved.ensures, ap evals_of c.best-v.ensures),
+      lowest_goes (branch_error a.branch.now) a.sign a.a a.b (valley c.loop-k.v) c.loop-k.v.evals c.loop-k.k c.loop-k.invariant.1 c.moved.ensures c.best-v.ensures c.loop-k-test.true c.if-v.false,
+    )
+
+pub returns : goal.returns
+returns c = lowest_ends _ _ _ _ (valley c.loop-k.v) c.loop-k.v.evals c.loop-k.k c.loop-k.invariant.1 c.loop-k-test.false

@@ -1,15 +1,11 @@
--- `bisect` meets its contract. Assumes nothing.
-use Rattle.std.proofs.Common.{◌≡◌, ◌+◌, ◌-◌, ◌≤◌}
+-- What is left of the definition's bisections after those made.
+use Rattle.std.proofs.Common.{◌≡◌, ◌-◌}
 use Rattle.search_definition.specs.Search.{bisect}
-use Rattle.search_error.specs.Fixed.{error_at}
-use Rattle.search_refine.specs.Counted.{counted}
+use Rattle.search_error.specs.Fixed.{branch_error}
+use Rattle.search_refine.specs.Counted.{counted, total}
 use Rattle.search_edge.specs.State.{gap}
 use Rattle.search_edge.proofs.edge.bisect.Given as goal
 
-abbrev pub invariant-loop : goal.invariant-loop
-invariant-loop l =
-    (l.counter ≤ 16) × (l.h.evals ≤ l.initial.h.evals + l.counter)
-    × (counted l.h.evals (bisect (error_at l.fixed l.i) (16 - l.counter) (gap l.h)) ≡ counted l.initial.h.evals (bisect (error_at l.fixed l.i) 16 (gap l.initial.h)))
-
-abbrev pub decreases-loop : goal.decreases-loop
-decreases-loop l = 16 - l.counter
+abbrev pub invariant-loop-k : goal.invariant-loop-k
+invariant-loop-k l =
+    counted l.k (bisect (branch_error l.branch) (16 - l.k) (gap l.h)) ≡ total (bisect (branch_error l.branch) 16 (gap l.fn.g))

@@ -1,16 +1,14 @@
--- `last_dip` meets its contract. Assumes nothing.
+-- The test and the dip are the definition's.
 use Rattle.search_definition.specs.Found.{Part, last}
 use Rattle.search_definition.specs.Scan.{falls_to, alike}
-use Rattle.search_error.specs.Fixed.{error_at}
-use Rattle.search_pairs.specs.State.{state, row}
+use Rattle.search_error.specs.Fixed.{branch_error}
+use Rattle.search_pairs.specs.State.{points, state}
 use Rattle.search_scan.proofs.ScanSteps.{last_is}
 use Rattle.search_scan.proofs.scan.last_dip.Goals as goal
 
 pub returns : goal.returns
 unfolding falls_to alike
 returns c =
-    let d = c.before.before.before.before in
-    let t = d.before.before.before in
-    let a = t.before.before.before.before.before.before.before.before.before.args in
+    let a = c.args in
     λ o e.
-    last_is (error_at a.fixed a.i) o (row a.xs.now a.ys.now) a.l (state a.qs.now a.cs.now a.f) t.falls_to-held.ensures (d.dip_if.ensures (λ (h : Part). o (last a.l h)) (λ h. e (last a.l h)))
+    last_is (branch_error a.branch.now) o (points a.row.now) a.l (state a.qs.now a.cs.now a.f) c.falls_to.ensures (c.dip_if.ensures (λ (h : Part). o (last a.l h)) (λ h. e (last a.l h)))

@@ -1,8 +1,0 @@
--- `falls_back` meets its contract. Assumes nothing.
-use Rattle.search_definition.specs.Refine.{negative}
-use Rattle.search_scan.proofs.ScanSteps.{falls_back_is}
-use Rattle.search_scan.proofs.scan.falls_back.Goals as goal
-
-pub returns : goal.returns
-unfolding negative
-returns c = search falls_back_is
