@@ -1,6 +1,6 @@
 -- Forward kinematics over plain numbers.
 use Rattle.std.specs.Prelude.{ℕ, cond, List, [], ◌∷◌, eqb, Float, length}
-use Rattle.linear.specs.Matrix.{part}
+use Rattle.linear.specs.Matrix.{row, part}
 use Rattle.kinematics.specs.Kinematics.{from_numbers}
 use Rattle.kinematics.specs.Pose.{forward_kinematics}
 use Rattle.kinematics.specs.declared.Pose.{Pose}
@@ -8,9 +8,9 @@ use Rattle.kinematics.specs.declared.Pose.{Pose}
 -- "A pose is the rotation by rows, then the place"
 abbrev pub pose_numbers : Pose → List Float
 pose_numbers s =
-    part s.row1 0 ∷ part s.row1 1 ∷ part s.row1 2
-    ∷ part s.row2 0 ∷ part s.row2 1 ∷ part s.row2 2
-    ∷ part s.row3 0 ∷ part s.row3 1 ∷ part s.row3 2
+    part (row s.rotation 0) 0 ∷ part (row s.rotation 0) 1 ∷ part (row s.rotation 0) 2
+    ∷ part (row s.rotation 1) 0 ∷ part (row s.rotation 1) 1 ∷ part (row s.rotation 1) 2
+    ∷ part (row s.rotation 2) 0 ∷ part (row s.rotation 2) 1 ∷ part (row s.rotation 2) 2
     ∷ s.place.x ∷ s.place.y ∷ s.place.z ∷ []
 
 -- Document 01's "5. The arm is not 39 numbers. 6. The pose is not 12 numbers", here of the list that the pose goes to, and a number of this call's own: 18, the

@@ -4,26 +4,28 @@
 mod pose;
 
 ghost use Rattle.std.specs.Prelude.{◌≡◌};
+ghost use Rattle.refusals.specs.Refusal.{number_of};
 ghost use Rattle.forward.specs.Forward.{forward_refusal, forward_pose};
 
 use pose::{put_pose, six};
+use refusals::Refusal;
 
 // The pose of six angles. A list of another length than 39, 6 or 12 is refused, and the pose's list
 // is then left as it came.
-pub fn forward(arm: &[f64], angles: &[f64], pose: &mut [f64]) -> u64
-    ensures result { result ≡ forward_refusal arm.now angles.now pose.old }
+pub fn forward(arm: &[f64], angles: &[f64], pose: &mut [f64]) -> Result<(), Refusal>
+    ensures result { number_of result ≡ forward_refusal arm.now angles.now pose.old }
     ensures pose { pose.new ≡ forward_pose arm.now angles.now pose.old }
 {
     if arm.len() != 39 {
-        return 5;
+        return Err(Refusal::ArmLength);
     }
     if pose.len() != 12 {
-        return 6;
+        return Err(Refusal::PoseLength);
     }
     if angles.len() != 6 {
-        return 18;
+        return Err(Refusal::AnglesLength);
     }
     let kin = kinematics::from_numbers(arm);
     put_pose(pose, kinematics::forward_kinematics(kin, six(angles)));
-    0
+    Ok(())
 }

@@ -1,77 +1,61 @@
 // Joint limits: twelve numbers, low then high, joint by joint, or none.
 #![tactic(auto)]
 
-ghost use Rattle.std.specs.Prelude.{◌≡◌, not, ◌∷◌, [], ◌*◌, ◌≤◌, length};
+ghost use Rattle.std.specs.Prelude.{◌≡◌, not, ◌∷◌, [], ◌≤◌, length};
 ghost use Rattle.std.specs.Float.Ieee.{lt};
+ghost use Rattle.refusals.specs.Refusal.{number_of};
 ghost use Rattle.answers.specs.Written.{Wrote};
-ghost use Rattle.answers.specs.Held.{held};
 ghost use Rattle.limits.specs.Limits.{between, all6, TwelveOrNone, inside, allowed, stops_fit, fit, refusal_10};
 
 use answers::Answer;
+use refusals::Refusal;
 
 fn between(low: f64, q: f64, high: f64) -> bool
     ensures { result ≡ between low q high }
 {
-    if low <= q { q <= high } else { false }
+    low <= q && q <= high
 }
 
-// Writes those of the first n answers of two lists that are inside the limits, and counts them.
+// Writes those answers of a list that are inside the limits, where they fit both lists, and counts them.
 pub fn write_allowed(
-    n: usize,
-    numbers: &[f64],
-    bytes: &[u8],
+    found: &[Answer],
     limits: &[f64],
     angles: &mut [f64],
     flags: &mut [u8],
 ) -> usize
-    requires { (n ≤ 17600) × (6 * n ≤ length numbers.now) × (n ≤ length bytes.now) × TwelveOrNone limits.now }
-    ensures { Wrote (allowed limits.now (held n numbers.now bytes.now)) angles.old flags.old angles.new flags.new result }
+    requires { (length found.now ≤ 17600) × TwelveOrNone limits.now }
+    ensures { Wrote (allowed limits.now found.now) angles.old flags.old angles.new flags.new result }
 {
     let mut count = 0;
-    let mut k = 0;
-    while k < n {
-        let q = answers::read(numbers, bytes, k);
+    for &q in found {
         let at = answers::rest(6 * count, angles.len());
         let on = answers::rest(count, flags.len());
         count += put_allowed(limits, q, &mut angles[at..], &mut flags[on..]);
-        k += 1;
     }
     count
 }
 
-fn in_order(low: f64, high: f64) -> bool
-    ensures { result ≡ not (lt high low) }
-{
-    if high < low { false } else { true }
-}
-
+// Whether both are finite and the low is not above the high.
+#[tactic(auto, unfolding(crate::specs::Limits::stops_fit))]
 fn stops_fit(low: f64, high: f64) -> bool
     ensures { result ≡ stops_fit low high }
 {
-    float::is_finite(low) & float::is_finite(high) & in_order(low, high)
-}
-
-fn all6(a: bool, b: bool, c: bool, d: bool, e: bool, f: bool) -> bool
-    ensures { result ≡ all6 a b c d e f }
-{
-    a & b & c & d & e & f
+    float::is_finite(low) && float::is_finite(high) && !(high < low)
 }
 
 // Whether an answer is inside the limits, of which there are twelve or none.
+#[tactic(auto, unfolding(crate::specs::Limits::inside))]
 pub fn inside(limits: &[f64], q: Answer) -> bool
     requires { TwelveOrNone limits.now }
     ensures { result ≡ inside limits.now q }
 {
-    if limits.len() != 12 {
-        return true;
-    }
-    let a = between(limits[0], q.q1, limits[1]);
-    let b = between(limits[2], q.q2, limits[3]);
-    let c = between(limits[4], q.q3, limits[5]);
-    let d = between(limits[6], q.q4, limits[7]);
-    let e = between(limits[8], q.q5, limits[9]);
-    let f = between(limits[10], q.q6, limits[11]);
-    all6(a, b, c, d, e, f)
+    limits.is_empty()
+        || between(limits[0], q.q1, limits[1])
+            && between(limits[2], q.q2, limits[3])
+            && between(limits[4], q.q3, limits[5])
+            && between(limits[6], q.q4, limits[7])
+            && between(limits[8], q.q5, limits[9])
+            && between(limits[10], q.q6, limits[11])
 }
 
 // Writes an answer to the start of the rest of the lists, where it is inside the limits and fits
@@ -87,29 +71,22 @@ pub fn put_allowed(limits: &[f64], q: Answer, angles: &mut [f64], flags: &mut [u
     }
 }
 
+// Whether each joint's two fit.
 fn fit(limits: &[f64]) -> bool
     requires { length limits.now ≡ 12 }
     ensures { result ≡ fit limits.now }
 {
-    let a = stops_fit(limits[0], limits[1]);
-    let b = stops_fit(limits[2], limits[3]);
-    let c = stops_fit(limits[4], limits[5]);
-    let d = stops_fit(limits[6], limits[7]);
-    let e = stops_fit(limits[8], limits[9]);
-    let f = stops_fit(limits[10], limits[11]);
-    all6(a, b, c, d, e, f)
+    (0..6usize).all(|j| stops_fit(limits[2 * j], limits[2 * j + 1]))
 }
 
-// Refusal 10, or 0.
-pub fn refusal_10(limits: &[f64]) -> u64
-    ensures { result ≡ refusal_10 limits.now }
+// Refusal 10, or none.
+#[tactic(auto, unfolding(crate::specs::Limits::refusal_10))]
+pub fn refusal_10(limits: &[f64]) -> Result<(), Refusal>
+    ensures { number_of result ≡ refusal_10 limits.now }
 {
-    let n = limits.len();
-    if n == 0 {
-        return 0;
+    if limits.is_empty() || limits.len() == 12 && fit(limits) {
+        Ok(())
+    } else {
+        Err(Refusal::Limits)
     }
-    if n != 12 {
-        return 10;
-    }
-    if fit(limits) { 0 } else { 10 }
 }

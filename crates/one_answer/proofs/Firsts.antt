@@ -9,19 +9,15 @@ use lib.ListN.{length, get_or, drop, drop_of_length-le}
 use lib.Seq.{drop-cons}
 use Rattle.answers.specs.declared.Answer.{Answer}
 use Rattle.limits.specs.Limits.{inside, allowed}
-use Rattle.one_answer.specs.OneAnswer.{zeros}
+use Rattle.std.proofs.Common.{Some, None}
 use Rattle.one_answer.specs.First.{head, first_allowed}
-use Rattle.one_answer.specs.declared.Maybe.{Maybe}
 
-abbrev one : Answer → Maybe
-one q = record { found = true; answer = q }
-
-by_inside : (b : Bool) (q : Answer) (rest : List Answer) → head (cond b (q ∷ rest) rest) ≡ cond b (one q) (head rest)
+by_inside : (b : Bool) (q : Answer) (rest : List Answer) → head (cond b (q ∷ rest) rest) ≡ cond b (Some q) (head rest)
 by_inside true q rest = refl
 by_inside false q rest = refl
 
 module _ (limits : List Float) (all : List Answer) where
-  step : (k : ℕ) (d : Answer) → k < length all → first_allowed limits (drop k all) ≡ cond (inside limits (get_or all k d)) (one (get_or all k d)) (first_allowed limits (drop (suc k) all))
+  step : (k : ℕ) (d : Answer) → k < length all → first_allowed limits (drop k all) ≡ cond (inside limits (get_or all k d)) (Some (get_or all k d)) (first_allowed limits (drop (suc k) all))
   unfolding first_allowed allowed
   step k d h = rw (drop-cons all k d h) (by_inside (inside limits (get_or all k d)) (get_or all k d) (allowed limits (drop (suc k) all)))
 
@@ -31,15 +27,15 @@ module _ (limits : List Float) (all : List Answer) where
       same : t ≡ inside limits (get_or all k d)
       same = rw e-q at e-t
 
-      pub here : t ≡ true → one q ≡ first_allowed limits all
+      pub here : t ≡ true → Some q ≡ first_allowed limits all
       here i = rw e-q (sym (rw (← same, i) at (step k d h)) ∙ e)
 
       pub on : t ≡ false → first_allowed limits (drop (k + 1) all) ≡ first_allowed limits all
       on i = rw (add-one k) (sym (rw (← same, i) at (step k d h)) ∙ e)
 
-    ended : length all ≤ k → first_allowed limits (drop k all) ≡ record { found = false; answer = zeros }
+    ended : length all ≤ k → first_allowed limits (drop k all) ≡ None
     unfolding first_allowed allowed
     ended h = rw (drop_of_length-le all h)
 
-    pub none : {q : Answer} → length all ≤ k → q ≡ zeros → ◌≡◌ {A = Maybe} (record { found = false; answer = q }) (first_allowed limits all)
-    none h z = rw z (sym (ended h) ∙ e)
+    pub none : length all ≤ k → None ≡ first_allowed limits all
+    none h = sym (ended h) ∙ e

@@ -1,13 +1,11 @@
--- The first of a list's answers that is inside the limits, and whether there is one: what the code looks for.
-use Rattle.std.specs.Prelude.{true, false, List, [], ◌∷◌, Float}
+-- The first of a list's answers that is inside the limits: what the code looks for.
+use Rattle.std.specs.Prelude.{List, [], ◌∷◌, Float, Option, Some, None}
 use Rattle.answers.specs.declared.Answer.{Answer}
 use Rattle.limits.specs.Limits.{allowed}
-use Rattle.one_answer.specs.OneAnswer.{zeros}
-use Rattle.one_answer.specs.declared.Maybe.{Maybe}
 
-abbrev pub head : List Answer → Maybe
-head [] = record { found = false; answer = zeros }
-head (q ∷ rest) = record { found = true; answer = q }
+abbrev pub head : List Answer → Option Answer
+head [] = None
+head (q ∷ rest) = Some q
 
-unfoldable pub first_allowed : List Float → List Answer → Maybe
+unfoldable pub first_allowed : List Float → List Answer → Option Answer
 first_allowed limits all = head (allowed limits all)

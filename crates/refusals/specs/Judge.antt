@@ -30,6 +30,13 @@ judge family n arm pose =
     5)
     4
 
+-- the two halves of it, for an arm of so many numbers: 4 to 6, or 0, and then 7 and 8, or 0
+abbrev pub judge_shape : ℕ → List Float → ℕ → List Float → ℕ
+judge_shape family arm arm_numbers pose = cond (known family) (cond (eqb (length arm) arm_numbers) (cond (eqb (length pose) 12) 0 6) 5) 4
+
+abbrev pub judge_numbers : ℕ → ℕ → List Float → List Float → ℕ
+judge_numbers family n arm pose = cond (samples_fit family n) (cond (all_finite arm && all_finite pose) 0 8) 7
+
 -- "9. The full list has more answers than the angle list has whole sixes, or more than the flag list has bytes", or 0
 abbrev pub refusal_9 : ℕ → ℕ → ℕ
 refusal_9 answers room = cond (leb answers room) 0 9

@@ -4,14 +4,22 @@ use mathlib.Core.Path.{◌≡◌, refl, sym}
 use mathlib.Core.Bool.{Bool, true, false, cond, ◌&&◌}
 use mathlib.Core.List.{List}
 use native.Mathlib.Omega.{arith}
-use borrow.Author.Tests.{leb-true, eqb-true, eqb-false}
+use borrow.Author.Tests.{leb-true, eqb-true, eqb-false, eq-eqb, ne_eqb}
 use lib.Dec.{leb, eqb}
 use lib.Ieee.{Float}
 use lib.ListN.{length}
+use Rattle.std.proofs.Common.{Ok, Err}
+use Rattle.std.proofs.lemmas.Grind.{common_steps}
+use Rattle.refusals.specs.Family.{family_number, family_of}
+use Rattle.refusals.specs.declared.family.Family.{Family}
 use Rattle.refusals.specs.Judge.{known, samples_fit, all_finite, judge}
 use Rattle.limits.specs.Limits.{TwelveOrNone, refusal_10}
 use Rattle.limits.proofs.Laws.{twelve_or_none}
-use Rattle.solve.specs.Solve.{refused}
+use Rattle.full_list.specs.Full.{of_numbers}
+use Rattle.full_list.specs.Task.{task_of, of_task}
+use Rattle.full_list.specs.declared.task.Task.{Task}
+use Rattle.refusals.specs.declared.refusal.Refusal.{Refusal}
+use Rattle.solve.specs.Solve.{refused, full}
 
 pub record Accepted (family n : ℕ) (arm pose : List Float) : Type 0 where
   pub family_low : 1 ≤ family
@@ -68,3 +76,29 @@ module _ (family n : ℕ) (arm pose limits : List Float) (e : 0 ≡ refused fami
 
   pub accepted_limits : TwelveOrNone limits
   accepted_limits = twelve_or_none limits both_accepted.0
+
+-- the family of a number
+pub named : (number : ℕ) (family : Family) → family_of number ≡ Ok family → family_number family ≡ number
+named number family e = grind (arith, common_steps)
+
+-- and no number of one is refused
+pub unnamed : (number : ℕ) (e : Refusal) → Err e ≡ family_of number → 1 ≤ number → number ≤ 6 → ⊥
+unnamed number e h low high = grind (arith, common_steps)
+
+-- 10 first, then 4 to 8
+module _ (family n : ℕ) (arm pose limits : List Float) where
+  pub by_limits : {ten : ℕ} → ten ≡ refusal_10 limits → (ten ≡ 0 → ⊥) → ten ≡ refused family n arm pose limits
+  unfolding refused
+  by_limits {ten} e h = let t = ne_eqb ten 0 h in cc
+
+  pub by_judge : {r : ℕ} → ◌≡◌ {A = ℕ} 0 (refusal_10 limits) → r ≡ judge family n arm pose → r ≡ refused family n arm pose limits
+  unfolding refused
+  by_judge z e = let t = eq-eqb (refusal_10 limits) 0 (sym z) in cc
+
+  -- what a call solves that is not refused
+  pub solves : 0 ≡ refused family n arm pose limits → full family n arm pose limits ≡ of_numbers family n arm pose
+  unfolding full
+  solves z = let t = eq-eqb (refused family n arm pose limits) 0 (sym z) in cc
+
+  pub task_is : {t : Task} {known : Family} → 0 ≡ refused family n arm pose limits → Ok known ≡ family_of family → t ≡ task_of known n arm pose → of_task t ≡ full family n arm pose limits
+  task_is {known = known} z h e = rw (e, named family known (sym h)) (sym (solves z))

@@ -12,7 +12,7 @@ use Rattle.answers.proofs.Laws.{nothing}
 use Rattle.limits.proofs.Filter.{none_allowed}
 use Rattle.full_list.specs.Full.{no_search}
 use Rattle.solve.specs.Solve.{refused, full, answers, solve}
-use Rattle.solve.specs.declared.Solved.{Solved}
+use Rattle.solve.specs.InNumbers.{Solved}
 
 abbrev solved : ℕ → ℕ → ℕ → Solved
 solved refusal answers evals = record { refusal = refusal; answers = answers; evals = evals }

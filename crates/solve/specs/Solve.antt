@@ -5,7 +5,7 @@ use Rattle.answers.specs.declared.Answer.{Answer}
 use Rattle.refusals.specs.Judge.{judge, refusal_9}
 use Rattle.limits.specs.Limits.{allowed, refusal_10}
 use Rattle.full_list.specs.Full.{Full, no_search, of_numbers}
-use Rattle.solve.specs.declared.Solved.{Solved}
+use Rattle.solve.specs.InNumbers.{Solved}
 
 -- refusals 10 and 4 to 8, the first that applies, or 0. Document 02, request 1: "Refused: 10, limits lent to a call that are neither twelve numbers nor none, a limit that
 -- isn't finite or a low above its high, checked after 3 and before 4"

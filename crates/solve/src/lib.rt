@@ -3,42 +3,79 @@
 // n, slices of any length, any numbers.
 #![tactic(auto)]
 
-ghost use Rattle.std.specs.Prelude.{◌≡◌, min};
+ghost use Rattle.std.specs.Prelude.{◌≡◌, min, IfOk, OnOk, length};
 ghost use Rattle.answers.specs.Written.{room, written, flagged};
-ghost use Rattle.refusals.specs.Judge.{refusal_9};
-ghost use Rattle.solve.specs.Solve.{refused, answers, solve};
+ghost use Rattle.refusals.specs.Refusal.{number, number_of};
+ghost use Rattle.limits.specs.Limits.{TwelveOrNone, allowed};
+ghost use Rattle.full_list.specs.Task.{of_task};
+ghost use Rattle.full_list.specs.Listed.{listed, evaluated};
+ghost use Rattle.solve.specs.Solve.{refused, full, answers, solve};
+ghost use Rattle.solve.specs.InNumbers.{in_numbers, refuses, gives};
 
-use refusals::{judge, refusal_9};
+use full_list::{FullList, Task};
+use refusals::{Family, Refusal, judge, refusal_9};
 
-// What a call gives: a refusal (0 is none), the number of answers inside the limits, and the
-// number of evaluations of the search error.
+// What a call gives: whether it is refused, the number of answers inside the limits, and the number of
+// evaluations of the search error. Where there is no room for the answers, it is refused with its counts.
 #[derive(Clone, Copy)]
 pub struct Solved {
-    pub refusal: u64,
+    pub outcome: Result<(), Refusal>,
     pub answers: usize,
     pub evals: u64,
 }
 
-// Refusals 10 and 4 to 8, the first that applies, or 0.
-pub fn refused(family: u64, n: u64, arm: &[f64], pose: &[f64], limits: &[f64]) -> u64
-    ensures { result ≡ refused family n arm.now pose.now limits.now }
+// What there is to solve, where none of refusals 10 and 4 to 8 applies; else the first.
+pub fn judged(
+    family: u64,
+    n: u64,
+    arm: &[f64],
+    pose: &[f64],
+    limits: &[f64],
+) -> Result<Task, Refusal>
+    ensures refused { number_of result ≡ refused family n arm.now pose.now limits.now }
+    ensures task { IfOk result (λ task. of_task task ≡ full family n arm.now pose.now limits.now) }
+    ensures limits { OnOk result (TwelveOrNone limits.now) }
 {
-    let ten = limits::refusal_10(limits);
-    if ten != 0 {
-        return ten;
-    }
-    judge(family, n, arm, pose)
+    limits::refusal_10(limits)?;
+    judge(family, n, arm, pose)?;
+    let known = Family::new(family)?;
+    Ok(Task::new(known, n, arm, pose))
 }
 
-// What a call gives that was not refused: 9 where the answers do not fit both lists.
-pub fn given(answers: usize, evals: u64, sixes: usize, bytes: usize) -> Solved
-    ensures { result ≡ record { refusal = refusal_9 answers (min sixes bytes); answers = answers; evals = evals } }
+// What a call gives that was refused before it solved.
+pub fn refuse(refusal: Refusal) -> Solved
+    ensures { in_numbers result ≡ refuses (number refusal) }
 {
     Solved {
-        refusal: refusal_9(answers, sixes, bytes),
-        answers: answers,
-        evals: evals,
+        outcome: Err(refusal),
+        answers: 0,
+        evals: 0,
     }
+}
+
+// What a call gives that was not: 9 where the answers do not fit both lists.
+pub fn given(answers: usize, evals: u64, sixes: usize, bytes: usize) -> Solved
+    ensures { in_numbers result ≡ gives answers evals (min sixes bytes) }
+{
+    Solved {
+        outcome: refusal_9(answers, sixes, bytes),
+        answers,
+        evals,
+    }
+}
+
+// Writes the answers of a list that are inside the limits.
+#[tactic(auto, unfolding(answers::specs::Rows::room_of))]
+fn write(list: &FullList, limits: &[f64], angles: &mut [f64], flags: &mut [u8]) -> Solved
+    requires { TwelveOrNone limits.now }
+    ensures result { in_numbers result ≡ gives (length (allowed limits.now (listed list.now))) (evaluated list.now) (room angles.old flags.old) }
+    ensures angles { angles.new ≡ written (allowed limits.now (listed list.now)) angles.old flags.old }
+    ensures flags { flags.new ≡ flagged (allowed limits.now (listed list.now)) angles.old flags.old }
+{
+    let sixes = angles.len() / 6;
+    let bytes = flags.len();
+    let count = list.write_allowed(limits, angles, flags);
+    given(count, list.evals(), sixes, bytes)
 }
 
 pub fn solve(
@@ -50,35 +87,24 @@ pub fn solve(
     angles: &mut [f64],
     flags: &mut [u8],
 ) -> Solved
-    ensures result { result ≡ solve family n arm.now pose.now limits.now (room angles.old flags.old) }
+    ensures result { in_numbers result ≡ solve family n arm.now pose.now limits.now (room angles.old flags.old) }
     ensures angles { angles.new ≡ written (answers family n arm.now pose.now limits.now) angles.old flags.old }
     ensures flags { flags.new ≡ flagged (answers family n arm.now pose.now limits.now) angles.old flags.old }
 {
-    let refused = refused(family, n, arm, pose, limits);
-    if refused != 0 {
-        return Solved {
-            refusal: refused,
-            answers: 0,
-            evals: 0,
-        };
+    let task = match judged(family, n, arm, pose, limits) {
+        Ok(task) => task,
+        Err(refusal) => return refuse(refusal),
+    };
+    match task.family {
+        Family::TwoParallel => {
+            let mut qs = [0.0; 17600];
+            let mut cs = [0u8; 17600];
+            let pairs = full_list::search(&task, &mut qs, &mut cs);
+            write(&FullList::Searched(pairs), limits, angles, flags)
+        }
+        _ => {
+            let found = full_list::without_search(&task);
+            write(&FullList::Found(found), limits, angles, flags)
+        }
     }
-    let sixes = angles.len() / 6;
-    let bytes = flags.len();
-    if family == 6 {
-        let mut qs = [0.0; 17600];
-        let mut cs = [0u8; 17600];
-        let list = full_list::search(n as usize, arm, pose, &mut qs, &mut cs);
-        let count = full_list::write_allowed(list, arm, pose, &qs, &cs, limits, angles, flags);
-        return given(count, list.evals, sixes, bytes);
-    }
-    // Without limits every answer stays, so that none needs to be looked at again.
-    if limits.len() == 0 {
-        let count = full_list::without_search(family, arm, pose, angles, flags);
-        return given(count, 0, sixes, bytes);
-    }
-    let mut eight = [0.0; 48];
-    let mut eight_flags = [0u8; 8];
-    let k = full_list::without_search(family, arm, pose, &mut eight, &mut eight_flags);
-    let count = limits::write_allowed(k, &eight, &eight_flags, limits, angles, flags);
-    given(count, 0, sixes, bytes)
 }

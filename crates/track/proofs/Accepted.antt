@@ -1,6 +1,6 @@
 -- What holds of the input of a track call that is not refused.
 use Prim.Native.Nat.{ℕ, ◌≤◌}
-use mathlib.Core.Path.{◌≡◌, refl, sym}
+use mathlib.Core.Path.{◌≡◌, refl, sym, ◌∙◌}
 use mathlib.Core.Bool.{Bool, true, false, cond, ◌&&◌}
 use mathlib.Core.List.{List}
 use native.Mathlib.Omega.{arith}
@@ -9,7 +9,7 @@ use lib.Dec.{leb, eqb}
 use lib.Ieee.{Float}
 use lib.ListN.{length}
 use Rattle.float.specs.Number.{is_finite}
-use Rattle.refusals.specs.Judge.{known, samples_fit, all_finite}
+use Rattle.refusals.specs.Judge.{known, samples_fit, all_finite, judge_shape, judge_numbers}
 use Rattle.track.specs.Track.{lockable, reduced_finite, track_judge, track_refused}
 
 pub record TrackAccepted (family n : ℕ) (arm : List Float) (joint : ℕ) (pose : List Float) : Type 0 where
@@ -59,3 +59,35 @@ both_zero x b false e z = absurd (eqb-false x 0 e (sym z))
 pub unrefused_track : (family n : ℕ) (arm : List Float) (joint : ℕ) (angle : Float) (pose : List Float) → 0 ≡ track_refused family n arm joint angle pose → (0 ≡ track_judge family n arm joint angle pose) × (reduced_finite arm joint angle pose ≡ true)
 unfolding track_refused
 unrefused_track family n arm joint angle pose e = both_zero (track_judge family n arm joint angle pose) (reduced_finite arm joint angle pose) (eqb (track_judge family n arm joint angle pose) 0) refl e
+
+-- `track_judge` in turn: 4 to 6, then 11, then 7 and 8
+module _ (family n : ℕ) (arm : List Float) (joint : ℕ) (angle : Float) (pose : List Float) where
+  by_cases : (k a p l : Bool) (rest : ℕ) → (◌≡◌ {A = ℕ} (cond k (cond a (cond p 0 6) 5) 4) 0 → ⊥) → ◌≡◌ {A = ℕ} (cond k (cond a (cond p 0 6) 5) 4) (cond k (cond a (cond p (cond l rest 11) 6) 5) 4)
+  by_cases true true true l rest h = absurd (h refl)
+  by_cases true true false l rest h = refl
+  by_cases true false p l rest h = refl
+  by_cases false a p l rest h = refl
+
+  passed : (k a p l : Bool) (rest : ℕ) → ◌≡◌ {A = ℕ} 0 (cond k (cond a (cond p 0 6) 5) 4) → ◌≡◌ {A = ℕ} (cond l rest 11) (cond k (cond a (cond p (cond l rest 11) 6) 5) 4)
+  passed true true true l rest e = refl
+  passed true true false l rest e = let z : ◌≡◌ {A = ℕ} 0 6 = e in absurd (omega arith)
+  passed true false p l rest e = let z : ◌≡◌ {A = ℕ} 0 5 = e in absurd (omega arith)
+  passed false a p l rest e = let z : ◌≡◌ {A = ℕ} 0 4 = e in absurd (omega arith)
+
+  pub by_shape : {r : ℕ} → r ≡ judge_shape family arm 45 pose → (r ≡ 0 → ⊥) → r ≡ track_judge family n arm joint angle pose
+  unfolding track_judge
+  by_shape e h = e ∙ by_cases (known family) (eqb (length arm) 45) (eqb (length pose) 12) (lockable joint angle) (judge_numbers family n arm pose) (λ z. h (e ∙ z))
+
+  after_shape : 0 ≡ judge_shape family arm 45 pose → cond (lockable joint angle) (judge_numbers family n arm pose) 11 ≡ track_judge family n arm joint angle pose
+  unfolding track_judge
+  after_shape e = passed (known family) (eqb (length arm) 45) (eqb (length pose) 12) (lockable joint angle) (judge_numbers family n arm pose) e
+
+  module _ {l : Bool} (e : 0 ≡ judge_shape family arm 45 pose) (e-l : l ≡ lockable joint angle) where
+    locked : cond l (judge_numbers family n arm pose) 11 ≡ track_judge family n arm joint angle pose
+    locked = rw e-l (after_shape e)
+
+    pub by_lock : l ≡ false → 11 ≡ track_judge family n arm joint angle pose
+    by_lock t = rw t at locked
+
+    pub by_numbers : {r : ℕ} → l ≡ true → r ≡ judge_numbers family n arm pose → r ≡ track_judge family n arm joint angle pose
+    by_numbers t e-r = e-r ∙ rw t at locked

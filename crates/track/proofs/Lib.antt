@@ -3,3 +3,4 @@ pub mod Accepted
 pub mod Numbers
 pub mod TrackDemand3
 pub mod TrackLent
+pub mod Solves

@@ -1,7 +1,7 @@
 -- Rows of seven numbers.
 use Prim.Native.Nat.{ℕ, zero, suc, ◌≤◌}
-use mathlib.Core.Path.{◌≡◌, refl}
-use mathlib.Core.List.{List, [], flat_map}
+use mathlib.Core.Path.{◌≡◌, refl, ap}
+use mathlib.Core.List.{List, [], ◌∷◌, flat_map}
 use native.Mathlib.Omega.{arith}
 use lib.Ieee.{Float}
 use lib.ListN.{length}
@@ -37,3 +37,15 @@ none_written joint angle a f = let e = take-nil {A = Answer} (room_of (sevens jo
 pub seven_parts : (joint : ℕ) (angle : Float) (q : Answer) → joint ≤ 6 → parts (seven joint angle q) ≡ seven joint angle q
 unfolding seven
 seven_parts joint angle q h = by_joint (λ j. parts (seven j angle q) ≡ seven j angle q) refl refl refl refl refl refl refl joint h
+
+-- an answer by itself
+abbrev pub one : Answer → List Answer
+one q = q ∷ []
+
+pub one_few : (q : Answer) → length (one q) ≤ 1
+one_few q = omega arith
+
+pub ones : (l : List Answer) → flat_map one l ≡ l
+unfolding flat_map
+ones [] = refl
+ones (q ∷ l) = ap (λ (t : List Answer). q ∷ t) (ones l)

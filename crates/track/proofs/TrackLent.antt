@@ -8,7 +8,7 @@ use lib.Ieee.{Float}
 use lib.ListN.{length}
 use Rattle.answers.specs.Rows.{room_of, written_of, flagged_of}
 use Rattle.full_list.specs.Full.{no_search}
-use Rattle.solve.specs.declared.Solved.{Solved}
+use Rattle.solve.specs.InNumbers.{Solved}
 use Rattle.track.specs.Sevens.{sevens}
 use Rattle.track.specs.Track.{track_refused, track_full, track_answers, solve_track}
 use Rattle.track.proofs.SevenRows.{none_written}

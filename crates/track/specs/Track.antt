@@ -5,7 +5,9 @@ use Rattle.float.specs.Number.{is_finite}
 use Rattle.answers.specs.declared.Answer.{Answer}
 use Rattle.refusals.specs.Judge.{known, samples_fit, all_finite, refusal_9}
 use Rattle.full_list.specs.Full.{Full, no_search, of_numbers}
-use Rattle.solve.specs.declared.Solved.{Solved}
+use Rattle.full_list.specs.Task.{of_task}
+use Rattle.full_list.specs.declared.task.Task.{Task}
+use Rattle.solve.specs.InNumbers.{Solved, gives}
 use Rattle.track.specs.Reduced.{reduced_arm, handed_on}
 
 -- "Refusal 5 means 45 here." "Refused: 11, a locked joint above 6 or its angle not finite, checked after 6." "The evaluation bound is to hold for the reduced arm as well, if
@@ -48,7 +50,5 @@ solve_track family n arm joint angle pose room =
     record { refusal = cond (eqb first 0) (refusal_9 count room) first; answers = count; evals = (track_full family n arm joint angle pose).evals }
 
 -- what solving the arm that is left gives, with room for so many sevens
-unfoldable pub solve_left : ℕ → ℕ → List Float → List Float → ℕ → Solved
-solve_left family n left to room =
-    let f = of_numbers family n left to in
-    record { refusal = refusal_9 (length f.answers) room; answers = length f.answers; evals = f.evals }
+unfoldable pub solve_left : Task → ℕ → Solved
+solve_left task room = gives (length (of_task task).answers) (of_task task).evals room

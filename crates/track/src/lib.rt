@@ -5,19 +5,20 @@
 mod reduced;
 mod sevens;
 
-ghost use Rattle.std.specs.Prelude.{◌≡◌, ◌&&◌, ◌≤◌, length};
+ghost use Rattle.std.specs.Prelude.{◌≡◌, ◌≤◌, length, IfOk, OnOk};
 ghost use Rattle.answers.specs.Rows.{room_of, written_of, flagged_of, WroteOf};
-ghost use Rattle.refusals.specs.Judge.{all_finite};
-ghost use Rattle.full_list.specs.Full.{of_numbers};
-ghost use Rattle.full_list.specs.Listed.{listed, Sound};
+ghost use Rattle.refusals.specs.Refusal.{number_of};
+ghost use Rattle.full_list.specs.Task.{of_task};
+ghost use Rattle.full_list.specs.Listed.{listed, evaluated};
+ghost use Rattle.solve.specs.InNumbers.{in_numbers, gives};
 ghost use Rattle.track.specs.Sevens.{sevens};
-ghost use Rattle.track.specs.Track.{lockable, track_judge, track_answers, solve_track, solve_left};
+ghost use Rattle.track.specs.Track.{lockable, track_judge, track_refused, track_full, track_answers, solve_track, solve_left};
 
-use full_list::FullList;
+use full_list::{FullList, Task};
 use reduced::{handed_on, reduced_arm};
-use refusals::{all_finite, samples_fit, within};
+use refusals::{Family, Refusal, all_finite, judge_numbers, judge_shape};
 use sevens::put_seven;
-use solve::Solved;
+use solve::{Solved, given, refuse};
 
 // The joint that is locked, counted from 0, and its angle.
 #[derive(Clone, Copy)]
@@ -29,62 +30,62 @@ struct Locked {
 fn lockable(joint: u64, angle: f64) -> bool
     ensures { result ≡ lockable joint angle }
 {
-    if joint <= 6 {
-        float::is_finite(angle)
-    } else {
-        false
-    }
+    joint <= 6 && float::is_finite(angle)
 }
 
-// Refusals 4, 5, 6, 11, 7 and 8 of the numbers that are lent, the first that applies, or 0.
-fn track_judge(family: u64, n: u64, arm: &[f64], joint: u64, angle: f64, pose: &[f64]) -> u64
-    ensures { result ≡ track_judge family n arm.now joint angle pose.now }
+// Refusals 4, 5, 6, 11, 7 and 8 of the numbers that are lent, the first that applies.
+fn track_judge(
+    family: u64,
+    n: u64,
+    arm: &[f64],
+    joint: u64,
+    angle: f64,
+    pose: &[f64],
+) -> Result<(), Refusal>
+    ensures { number_of result ≡ track_judge family n arm.now joint angle pose.now }
 {
-    if !within(1, family, 6) {
-        return 4;
-    }
-    if arm.len() != 45 {
-        return 5;
-    }
-    if pose.len() != 12 {
-        return 6;
-    }
+    judge_shape(family, arm, 45, pose)?;
     if !lockable(joint, angle) {
-        return 11;
+        return Err(Refusal::Lock);
     }
-    if !samples_fit(family, n) {
-        return 7;
-    }
-    if !all_finite(arm) {
-        return 8;
-    }
-    if all_finite(pose) { 0 } else { 8 }
+    judge_numbers(family, n, arm, pose)
 }
 
-fn both_finite(a: &[f64], b: &[f64]) -> bool
-    ensures { result ≡ all_finite a.now && all_finite b.now }
+// What there is to solve: the arm that is left, and the pose that it is to make. Numbers of theirs that
+// overflow are refused as the numbers that are lent.
+fn judged(
+    family: u64,
+    n: u64,
+    arm: &[f64],
+    joint: u64,
+    angle: f64,
+    pose: &[f64],
+) -> Result<Task, Refusal>
+    ensures refused { number_of result ≡ track_refused family n arm.now joint angle pose.now }
+    ensures task { IfOk result (λ task. of_task task ≡ track_full family n arm.now joint angle pose.now) }
+    ensures joint { OnOk result (joint ≤ 6) }
 {
-    if all_finite(a) { all_finite(b) } else { false }
+    track_judge(family, n, arm, joint, angle, pose)?;
+    let left = reduced_arm(arm, joint as usize, angle);
+    let to = handed_on(arm, joint as usize, angle, pose);
+    if !all_finite(&left) {
+        return Err(Refusal::NotFinite);
+    }
+    if !all_finite(&to) {
+        return Err(Refusal::NotFinite);
+    }
+    let known = Family::new(family)?;
+    Ok(Task::new(known, n, &left, &to))
 }
 
 // Writes the answers of a full list as sevens, where they fit both lists, and counts them.
-fn write_sevens(
-    list: FullList,
-    arm: &[f64],
-    pose: &[f64],
-    numbers: &[f64],
-    bytes: &[u8],
-    lock: Locked,
-    angles: &mut [f64],
-    flags: &mut [u8],
-) -> usize
-    requires { Sound list arm.now pose.now numbers.now bytes.now × (lock.joint ≤ 6) }
-    ensures { WroteOf (sevens lock.joint lock.angle) (listed list arm.now pose.now numbers.now bytes.now) angles.old flags.old angles.new flags.new result }
+fn write_sevens(list: &FullList, lock: Locked, angles: &mut [f64], flags: &mut [u8]) -> usize
+    requires { lock.joint ≤ 6 }
+    ensures { WroteOf (sevens lock.joint lock.angle) (listed list.now) angles.old flags.old angles.new flags.new result }
 {
     let mut count = 0;
-    let mut k = 0;
-    while k < list.answers {
-        let q = full_list::answer(list, arm, pose, numbers, bytes, k);
+    for k in 0..list.len() {
+        let q = list.answer(k);
         let at = answers::rest(7 * count, angles.len());
         let on = answers::rest(count, flags.len());
         count += put_seven(
@@ -94,49 +95,42 @@ fn write_sevens(
             &mut angles[at..],
             &mut flags[on..],
         );
-        k += 1;
     }
     count
 }
 
-// Solves the arm that is left, which is not refused, and writes its answers as sevens.
-fn solve_left(
-    family: u64,
-    n: u64,
-    left: &[f64],
-    to: &[f64],
-    lock: Locked,
-    angles: &mut [f64],
-    flags: &mut [u8],
-) -> Solved
-    requires { (1 ≤ family) × (family ≤ 6) × (length left.now ≡ 39) × (length to.now ≡ 12) × (lock.joint ≤ 6) }
-    ensures result { result ≡ solve_left family n left.now to.now (room_of (sevens lock.joint lock.angle) angles.old flags.old) }
-    ensures angles { angles.new ≡ written_of (sevens lock.joint lock.angle) (of_numbers family n left.now to.now).answers angles.old flags.old }
-    ensures flags { flags.new ≡ flagged_of (sevens lock.joint lock.angle) (of_numbers family n left.now to.now).answers angles.old flags.old }
+// The same, and what the call then gives.
+#[tactic(auto, unfolding(answers::specs::Rows::room_of))]
+fn write_left(list: &FullList, lock: Locked, angles: &mut [f64], flags: &mut [u8]) -> Solved
+    requires { lock.joint ≤ 6 }
+    ensures result { in_numbers result ≡ gives (length (listed list.now)) (evaluated list.now) (room_of (sevens lock.joint lock.angle) angles.old flags.old) }
+    ensures angles { angles.new ≡ written_of (sevens lock.joint lock.angle) (listed list.now) angles.old flags.old }
+    ensures flags { flags.new ≡ flagged_of (sevens lock.joint lock.angle) (listed list.now) angles.old flags.old }
 {
     let rows = angles.len() / 7;
     let bytes = flags.len();
-    if family == 6 {
-        let mut qs = [0.0; 17600];
-        let mut cs = [0u8; 17600];
-        let list = full_list::search(n as usize, left, to, &mut qs, &mut cs);
-        let count = write_sevens(list, left, to, &qs, &cs, lock, angles, flags);
-        return solve::given(count, list.evals, rows, bytes);
-    }
-    let mut eight = [0.0; 48];
-    let mut eight_flags = [0u8; 8];
-    let list = full_list::list_of_eight(family, left, to, &mut eight, &mut eight_flags);
-    let count = write_sevens(list, left, to, &eight, &eight_flags, lock, angles, flags);
-    solve::given(count, 0, rows, bytes)
+    let count = write_sevens(list, lock, angles, flags);
+    given(count, list.evals(), rows, bytes)
 }
 
-fn refuses(refusal: u64) -> Solved
-    ensures { result ≡ record { refusal = refusal; answers = 0; evals = 0 } }
+// Solves the arm that is left, which is not refused, and writes its answers as sevens.
+fn solve_left(task: &Task, lock: Locked, angles: &mut [f64], flags: &mut [u8]) -> Solved
+    requires { lock.joint ≤ 6 }
+    ensures result { in_numbers result ≡ solve_left task.now (room_of (sevens lock.joint lock.angle) angles.old flags.old) }
+    ensures angles { angles.new ≡ written_of (sevens lock.joint lock.angle) (of_task task.now).answers angles.old flags.old }
+    ensures flags { flags.new ≡ flagged_of (sevens lock.joint lock.angle) (of_task task.now).answers angles.old flags.old }
 {
-    Solved {
-        refusal: refusal,
-        answers: 0,
-        evals: 0,
+    match task.family {
+        Family::TwoParallel => {
+            let mut qs = [0.0; 17600];
+            let mut cs = [0u8; 17600];
+            let pairs = full_list::search(task, &mut qs, &mut cs);
+            write_left(&FullList::Searched(pairs), lock, angles, flags)
+        }
+        _ => {
+            let found = full_list::without_search(task);
+            write_left(&FullList::Found(found), lock, angles, flags)
+        }
     }
 }
 
@@ -150,23 +144,17 @@ pub fn solve_track(
     angles: &mut [f64],
     flags: &mut [u8],
 ) -> Solved
-    ensures result { result ≡ solve_track family n arm.now joint angle pose.now (room_of (sevens joint angle) angles.old flags.old) }
+    ensures result { in_numbers result ≡ solve_track family n arm.now joint angle pose.now (room_of (sevens joint angle) angles.old flags.old) }
     ensures angles { angles.new ≡ written_of (sevens joint angle) (track_answers family n arm.now joint angle pose.now) angles.old flags.old }
     ensures flags { flags.new ≡ flagged_of (sevens joint angle) (track_answers family n arm.now joint angle pose.now) angles.old flags.old }
 {
-    let first = track_judge(family, n, arm, joint, angle, pose);
-    if first != 0 {
-        return refuses(first);
-    }
-    let j = joint as usize;
-    let left = reduced_arm(arm, j, angle);
-    let to = handed_on(arm, j, angle, pose);
-    if !both_finite(&left, &to) {
-        return refuses(8);
-    }
-    let lock = Locked {
-        joint: j,
-        angle: angle,
+    let task = match judged(family, n, arm, joint, angle, pose) {
+        Ok(task) => task,
+        Err(refusal) => return refuse(refusal),
     };
-    solve_left(family, n, &left, &to, lock, angles, flags)
+    let lock = Locked {
+        joint: joint as usize,
+        angle,
+    };
+    solve_left(&task, lock, angles, flags)
 }

@@ -1,11 +1,7 @@
--- `write_allowed`: each answer of the lists is put where it is inside.
-use Prim.Native.Nat.{◌-◌}
-use Rattle.answers.specs.Held.{held}
+-- Of each answer so far, what `put_allowed` writes.
+use Rattle.std.proofs.Common.{length}
 use Rattle.limits.proofs.Each.{Written}
 use Rattle.limits.proofs.write_allowed.Given as goal
 
-abbrev pub invariant-loop-k : goal.invariant-loop-k
-invariant-loop-k l = Written l.limits (held l.n l.numbers l.bytes) l.n l.initial.angles l.initial.flags l.angles l.flags l.count l.k
-
-abbrev pub decreases-loop-k : goal.decreases-loop-k
-decreases-loop-k l = l.n - l.k
+abbrev pub invariant-loop-q : goal.invariant-loop-q
+invariant-loop-q l = Written l.limits l.found (length l.found) l.initial.angles l.initial.flags l.angles l.flags l.count l.q-index

@@ -1,19 +1,10 @@
--- The first i numbers are finite, and the rest decides.
-use Prim.Native.Nat.{ℕ, suc, ◌+◌, ◌≤◌, ◌<◌}
-use mathlib.Core.Path.{◌≡◌}
-use mathlib.Core.Bool.{Bool, true, false, cond}
-use mathlib.Core.List.{List}
-use native.Mathlib.Numerals.{add-one}
-use native.Mathlib.Omega.{arith}
-use lib.Ieee.{Float, nan}
-use lib.ListN.{length, get_or, drop, drop_of_length-le}
-use lib.Seq.{drop-cons}
+-- The numbers so far are finite, and the rest decides.
+use borrow.Author.Tests.{not-true, not-false}
+use Rattle.std.proofs.Common.{◌≡◌, ℕ, suc, ◌+◌, ◌<◌, ◌≤◌, Bool, true, false, cond, List, length, drop, get_or, drop-cons, drop_of_length-le, add-one, not, Float, arith}
+use Rattle.std.specs.Float.{nan}
 use Rattle.float.specs.Number.{is_finite}
 use Rattle.refusals.specs.Judge.{first_not_finite}
 use Rattle.refusals.proofs.first_not_finite.Goals as goal
-
-start : (l : List Float) → 0 + first_not_finite (drop 0 l) ≡ first_not_finite l
-start l = omega arith
 
 module _ (l : List Float) (i : ℕ) (e : i + first_not_finite (drop i l) ≡ first_not_finite l) where
   module _ {t : Bool} (h : i < length l) (e-t : t ≡ is_finite (get_or l i nan)) where
@@ -21,24 +12,21 @@ module _ (l : List Float) (i : ℕ) (e : i + first_not_finite (drop i l) ≡ fir
     unfolding first_not_finite
     rest = rw (drop-cons l i nan h, e-t, add-one i)
 
-    here : t ≡ false → i ≡ first_not_finite l
-    here f = let r = rw f at rest in omega arith
+    here : not t ≡ true → i ≡ first_not_finite l
+    here f = let r = rw (not-true t f) at rest in omega arith
 
-    on : t ≡ true → i + 1 + first_not_finite (drop (i + 1) l) ≡ first_not_finite l
-    on f = let r = rw f at rest in omega arith
+    on : not t ≡ false → i + 1 + first_not_finite (drop (i + 1) l) ≡ first_not_finite l
+    on f = let r = rw (not-false t f) at rest in omega arith
 
-  end : length l ≤ i → i ≡ first_not_finite l
+  end : length l ≤ i → i ≤ length l → length l ≡ first_not_finite l
   unfolding first_not_finite
-  end h = let none = rw (drop_of_length-le l h) at e in omega arith
+  end h h' = let none = rw (drop_of_length-le l h) at e in omega arith
 
-pub loop-i-init : goal.loop-i-init
-loop-i-init c = (omega arith, search start)
-
-pub returns-else-is_finite : goal.returns-else-is_finite
-returns-else-is_finite c = search here
+pub returns-then-not-is_finite : goal.returns-then-not-is_finite
+returns-then-not-is_finite c = search here
 
 pub loop-i-preserved : goal.loop-i-preserved
-loop-i-preserved c = (omega arith, search on)
+loop-i-preserved c = search on
 
 pub returns : goal.returns
-returns c = search end
+returns c = end _ _ c.loop-i.invariant c.loop-i-test.false c.loop-i.auto.i-end

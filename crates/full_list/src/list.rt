@@ -1,0 +1,77 @@
+// The full list, however it is kept.
+ghost use Rattle.std.specs.Prelude.{◌≡◌, ◌≤◌, ◌<◌, length, get_or};
+ghost use Rattle.answers.specs.Written.{Wrote};
+ghost use Rattle.limits.specs.Limits.{TwelveOrNone, allowed};
+ghost use Rattle.full_list.specs.Task.{of_task, for_search};
+ghost use Rattle.full_list.specs.Listed.{listed, evaluated, blank, of_pairs};
+
+use crate::pairs::Pairs;
+use crate::task::Task;
+use answers::Answer;
+use arrayvec::ArrayVec;
+
+// The answers of families 1 to 5, or the pairs that family 6 found.
+#[derive(Drop)]
+pub enum FullList<'a> {
+    Found(ArrayVec<Answer, 8>),
+    Searched(Pairs<'a>),
+}
+
+// Family 6, by a search over n + 1 samples.
+pub fn search<'a>(task: &Task, qs: &'a mut [f64; 17600], cs: &'a mut [u8; 17600]) -> Pairs<'a>
+    ensures all { of_pairs result ≡ (for_search task.now).answers }
+    ensures counted { result.evals ≡ (for_search task.now).evals }
+{
+    let s = family6::two_parallel(task.r_06, task.p_0t, task.kin, task.n, qs, cs);
+    Pairs {
+        task: *task,
+        angles: &qs[..s.pairs],
+        components: &cs[..s.pairs],
+        evals: s.evals,
+    }
+}
+
+impl FullList<'_> {
+    // At most 44 * 400.
+    pub fn len(&self) -> usize
+        ensures len { result ≡ length (listed self.now) }
+        ensures few { result ≤ 17600 }
+    {
+        match self {
+            FullList::Found(found) => found.len(),
+            FullList::Searched(pairs) => pairs.angles.len(),
+        }
+    }
+
+    // How often the search's error was evaluated.
+    pub fn evals(&self) -> u64
+        ensures { result ≡ evaluated self.now }
+    {
+        match self {
+            FullList::Found(_) => 0,
+            FullList::Searched(pairs) => pairs.evals,
+        }
+    }
+
+    // Answer k.
+    pub fn answer(&self, k: usize) -> Answer
+        requires { k < length (listed self.now) }
+        ensures { result ≡ get_or (listed self.now) k blank }
+    {
+        match self {
+            FullList::Found(found) => found[k],
+            FullList::Searched(pairs) => pairs.answer(k),
+        }
+    }
+
+    // Writes the answers that are inside the limits, where they fit both lists, and counts them.
+    pub fn write_allowed(&self, limits: &[f64], angles: &mut [f64], flags: &mut [u8]) -> usize
+        requires { TwelveOrNone limits.now }
+        ensures { Wrote (allowed limits.now (listed self.now)) angles.old flags.old angles.new flags.new result }
+    {
+        match self {
+            FullList::Found(found) => limits::write_allowed(found, limits, angles, flags),
+            FullList::Searched(pairs) => pairs.write_allowed(limits, angles, flags),
+        }
+    }
+}
