@@ -5,6 +5,8 @@ use mathlib.Core.Bool.{Bool, true, false, ◌&&◌}
 use mathlib.Core.List.{List, [], ◌∷◌, ◌++◌, append-nil, append_assoc}
 use native.Mathlib.Omega.{arith}
 use native.Mathlib.Nat.{div-add-mod, mod-eq_of_lt, min-le_left}
+use Rattle.std.proofs.Math.Nat.{div-div-eq-div-mul}
+use Rattle.std.specs.Int.{byte_at, bytes_low_first}
 use borrow.Author.Tests.{eqb-true, eq-eqb, le-ltb}
 use lib.Dec.{T, eqb}
 use lib.Ieee.{Float, binary64, fits, to_bits}
@@ -68,6 +70,21 @@ pub length_little : (n v : ℕ) → length (little n v) ≡ n
 unfolding little
 length_little zero v = refl
 length_little (suc n) v = ap suc (length_little n (v / 256))
+
+shifted_byte : (i v : ℕ) → byte_at (suc i) v ≡ byte_at i (v / 256)
+shifted_byte zero v = refl
+shifted_byte (suc i) v =
+    let k : 256 ^ suc (suc i) ≡ 256 * 256 ^ suc i = omega arith in
+    rw k (ap (λ (x : ℕ). x % 256) (sym (div-div-eq-div-mul v 256 (256 ^ suc i))))
+
+shifted : (i n v : ℕ) → bytes_low_first (suc i) n v ≡ bytes_low_first i n (v / 256)
+shifted i zero v = refl
+shifted i (suc n) v = rw (shifted_byte i v, shifted (suc i) n v)
+
+pub le_bytes : (n v : ℕ) → bytes_low_first 0 n v ≡ little n v
+unfolding little
+le_bytes zero v = refl
+le_bytes (suc n) v = ap (λ (l : List ℕ). v % 256 ∷ l) (shifted 0 n v ∙ le_bytes n (v / 256))
 
 join : (v : ℕ) {r : ℕ} → r ≡ v / 256 → v % 256 + 256 * r ≡ v
 join v e = omega (arith, div-add-mod v 256)

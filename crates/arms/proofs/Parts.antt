@@ -1,9 +1,10 @@
 -- The blocks of a buffer from a place on, and up to a place.
 use Prim.Native.Nat.{ℕ, zero, suc, ◌+◌, ◌*◌, ◌/◌, ◌%◌, ◌≤◌, ◌<◌}
-use mathlib.Core.Path.{◌≡◌, ap, sym, ◌∙◌}
+use mathlib.Core.Path.{◌≡◌, refl, ap, sym, ◌∙◌}
 use mathlib.Core.List.{List, [], ◌∷◌, ◌++◌}
 use native.Mathlib.Omega.{arith}
-use lib.ListN.{length, get_or, take, drop, take-append-drop, length-append, length-drop}
+use Rattle.std.specs.Simd.{first_chunks}
+use lib.ListN.{length, get_or, take, drop, take-append-drop, length-append, length-drop, drop_of_length-le}
 use lib.Seq.{drop-drop, take-add, length-take-le, take-append-le, drop-append-le, take_all, get_or-take, get_or-drop}
 use Rattle.arms.specs.File.{blocks_of, blocks, number}
 
@@ -62,3 +63,28 @@ module _ (l : List ℕ) (at : ℕ) (m : at % 512 ≡ 0) (h : at ≤ length l) wh
       let t : take 512 (take 512 (drop at l)) ≡ take 512 (drop at l) = take_all 512 (take 512 (drop at l)) (omega arith) in
       let u : blocks (drop 512 (take 512 (drop at l))) ≡ [] = blocks_past (take 512 (drop at l)) 512 (omega arith) in
       rw (take-add at 512 l, blocks_append (at / 512) (take at l) (take 512 (drop at l)) (omega arith), one, t, u)
+
+-- std's chunks of 512 bytes are the blocks, where the last is not short
+chunks_are : (n : ℕ) (l : List ℕ) → first_chunks 512 n l ≡ blocks_of n l
+unfolding blocks_of
+chunks_are zero l = refl
+chunks_are (suc n) l = ap (λ (bs : List (List ℕ)). take 512 l ∷ bs) (chunks_are n (drop 512 l))
+
+pub whole_chunks : (l : List ℕ) → length l % 512 ≡ 0 → first_chunks 512 (length l / 512) l ≡ blocks l
+unfolding blocks
+whole_chunks l m = let n : (length l + 511) / 512 ≡ length l / 512 = omega arith in rw n (chunks_are (length l / 512) l)
+
+pub short_chunk : (l : List ℕ) → (length l % 512 ≡ 0 → ⊥) → first_chunks 512 (length l / 512) l ++ (drop (length l / 512 * 512) l ∷ []) ≡ blocks l
+short_chunk l m = go (length l / 512) l refl m
+  where
+    go : (n : ℕ) (xs : List ℕ) → length xs / 512 ≡ n → (length xs % 512 ≡ 0 → ⊥) → first_chunks 512 n xs ++ (drop (n * 512) xs ∷ []) ≡ blocks xs
+    go zero xs e h =
+        let r : drop 512 xs ≡ [] = drop_of_length-le xs {i = 512} (omega (arith, h)) in
+        let n : blocks [] ≡ [] = blocks_none [] (omega arith) in
+        let t : take 512 xs ≡ xs = take_all 512 xs (omega arith) in
+        rw (blocks_next xs (omega (arith, h)), r, n, t)
+    go (suc n) xs e h =
+        let d = length-drop 512 xs in
+        let i = go n (drop 512 xs) (omega arith) (λ z. h (omega arith)) in
+        let k : 512 + n * 512 ≡ suc n * 512 = omega arith in
+        rw (blocks_next xs (omega arith)) (ap (λ (bs : List (List ℕ)). take 512 xs ∷ bs) (rw (drop-drop (n * 512) 512 xs, k) at i))

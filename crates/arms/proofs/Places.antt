@@ -4,38 +4,31 @@ use mathlib.Core.Path.{◌≡◌, refl, ap, sym, ◌∙◌}
 use mathlib.Core.Bool.{Bool, true, false, cond, not, ◌&&◌, ◌||◌}
 use mathlib.Core.List.{List, [], ◌∷◌, ◌++◌, append_assoc}
 use native.Mathlib.Omega.{arith}
-use borrow.Author.Tests.{eq-eqb, ne_eqb, lt-ltb, le-ltb}
+use borrow.Author.Tests.{eq-eqb, ne_eqb, lt-ltb, le-ltb, ltb-true, ltb-false}
+use Rattle.std.specs.Prelude.{Option, Some, None}
+use Rattle.std.specs.Option.{is_some}
+use Rattle.std.specs.List.{position, position_or_len}
+use Rattle.std.proofs.lemmas.List.Recursion.{is_position_or_len}
 use lib.Dec.{ltb, eqb, leb-suc-suc}
-use lib.ListN.{length, take, drop}
-use lib.Seq.{drop_at, take_at, take-append-add, drop-append-add}
+use lib.ListN.{length, get_or, take, drop}
+use lib.Seq.{drop_at, take-append-add, drop-append-add}
 use Rattle.words.specs.Words.{zeros}
 use Rattle.block.specs.Block.{arm}
 use Rattle.block.proofs.Judged.{passed}
 use Rattle.arms.specs.Arm.{Arm, holds, pick, arm_fault}
-use Rattle.arms.specs.File.{blocks, flat, number, arm_of, rest, arms, block_fault, replace, has, room}
+use Rattle.arms.specs.File.{blocks, flat, number, arm_of, rest, arms, block_fault, judge, replace, has, room}
 use Rattle.arms.specs.Agreement.{Each, none, more, Valid}
-use Rattle.arms.specs.Port.{place, named}
-use Rattle.arms.proofs.Blocks.{Sound}
+use Rattle.arms.specs.Port.{named}
+use Rattle.arms.specs.Plain.{no_arm}
+use Rattle.arms.proofs.Blocks.{Sound, judged_sound}
 use Rattle.arms.proofs.Bytes.{flat_blocks, length_flat, zeros_number}
 use Rattle.arms.proofs.Agree.{good_of, arm_known}
-use Rattle.arms.proofs.Parts.{blocks_at, blocks_past, blocks_split}
+use Rattle.arms.proofs.Parts.{blocks_at, blocks_split}
 
--- a walk from block to block, for any test
-module _ (test : List ℕ → Bool) (l : List ℕ) (at : ℕ) (inv : 512 * place test (blocks (drop at l)) + at ≡ 512 * place test (blocks l)) where
-  module _ {r : Bool} (h : at < length l) (e : r ≡ test (take 512 (drop at l))) where
-    one : place test (blocks (drop at l)) ≡ cond r 0 (suc (place test (blocks (drop (at + 512) l))))
-    unfolding place
-    one = rw (blocks_at l at h, e)
-
-    pub place_here : r ≡ true → at ≡ 512 * place test (blocks l)
-    place_here t = let o = rw t at one in omega arith
-
-    pub place_on : r ≡ false → 512 * place test (blocks (drop (at + 512) l)) + (at + 512) ≡ 512 * place test (blocks l)
-    place_on t = let o = rw t at one in omega arith
-
-  pub place_none : length l ≤ at → at ≡ 512 * place test (blocks l)
-  unfolding place
-  place_none h = let e = rw (blocks_past l at h) at inv in omega arith
+-- how many blocks stand before the first that passes a test; all of them, where none does
+unfoldable pub place : (List ℕ → Bool) → List (List ℕ) → ℕ
+place test [] = 0
+place test (b ∷ bs) = cond (test b) 0 (suc (place test bs))
 
 -- tests that agree on every block
 pub place_same : (s t : List ℕ → Bool) {bs : List (List ℕ)} → Each (λ b. s b ≡ t b) bs → place s bs ≡ place t bs
@@ -101,21 +94,17 @@ held_place n (b ∷ bs) = go (zeros b) (eqb (number b) n) refl refl (held_place 
     go false true e f ih = rw f (sym (lt-ltb 0 (suc (length bs)) (omega arith)))
     go false false e f ih = rw f (ih ∙ sym (leb-suc-suc (suc (place (has n) bs)) (length bs)))
 
-pick_place : (n : ℕ) {bs : List (List ℕ)} → Each (λ b. length b ≡ 512) bs → place (has n) bs < length bs → pick n (arms bs) ≡ arm_of (take 512 (drop (512 * place (has n) bs) (flat bs)))
-unfolding pick arms place has arm_of flat
-pick_place n none h = absurd (omega arith)
-pick_place n (more {x = b} {xs = bs} p s) h = go (zeros b) (eqb (number b) n) refl refl (pick_place n s) h
+pick_place : (n : ℕ) (bs : List (List ℕ)) → place (has n) bs < length bs → pick n (arms bs) ≡ arm_of (get_or bs (place (has n) bs) [])
+unfolding pick arms place has arm_of
+pick_place n [] h = absurd (omega arith)
+pick_place n (b ∷ bs) h = go (zeros b) (eqb (number b) n) refl refl (pick_place n bs) h
   where
-    go : (z t : Bool) → zeros b ≡ z → eqb (number b) n ≡ t → (place (has n) bs < length bs → pick n (arms bs) ≡ arm_of (take 512 (drop (512 * place (has n) bs) (flat bs))))
+    go : (z t : Bool) → zeros b ≡ z → eqb (number b) n ≡ t → (place (has n) bs < length bs → pick n (arms bs) ≡ arm_of (get_or bs (place (has n) bs) []))
         → cond (not z && t) 0 (suc (place (has n) bs)) < suc (length bs)
-        → pick n (cond z (arms bs) (arm_of b ∷ arms bs)) ≡ arm_of (take 512 (drop (512 * cond (not z && t) 0 (suc (place (has n) bs))) (b ++ flat bs)))
-    go true t e f ih g =
-        let k : 512 * suc (place (has n) bs) ≡ length b + 512 * place (has n) bs = omega arith in
-        rw (k, drop-append-add b (flat bs) (512 * place (has n) bs)) (ih (omega arith))
-    go false true e f ih g = rw (f, take_at b (flat bs) 512 p)
-    go false false e f ih g =
-        let k : 512 * suc (place (has n) bs) ≡ length b + 512 * place (has n) bs = omega arith in
-        rw (f, k, drop-append-add b (flat bs) (512 * place (has n) bs)) (ih (omega arith))
+        → pick n (cond z (arms bs) (arm_of b ∷ arms bs)) ≡ arm_of (get_or (b ∷ bs) (cond (not z && t) 0 (suc (place (has n) bs))) [])
+    go true t e f ih g = ih (omega arith)
+    go false true e f ih g = rw f
+    go false false e f ih g = rw f (ih (omega arith))
 
 room_place : (bs : List (List ℕ)) → room bs ≡ ltb (place zeros bs) (length bs)
 unfolding room place
@@ -125,6 +114,64 @@ room_place (b ∷ bs) = go (zeros b) (room_place bs)
     go : (z : Bool) → room bs ≡ ltb (place zeros bs) (length bs) → (z || room bs) ≡ ltb (cond z 0 (suc (place zeros bs))) (suc (length bs))
     go true ih = sym (lt-ltb 0 (suc (length bs)) (omega arith))
     go false ih = ih ∙ sym (leb-suc-suc (suc (place zeros bs)) (length bs))
+
+-- std's position, by the place
+place_is : (test : List ℕ → Bool) (bs : List (List ℕ)) → place test bs ≡ position_or_len test bs
+unfolding place
+place_is test bs = is_position_or_len (place test) test refl (λ b bs. ap (λ (k : ℕ). cond (test b) 0 k) (omega arith)) bs
+
+position_is : (test : List ℕ → Bool) (bs : List (List ℕ)) → position test bs ≡ cond (ltb (place test bs) (length bs)) (Some (place test bs)) None
+position_is test bs = rw (place_is test bs)
+
+module _ (test : List ℕ → Bool) (bs : List (List ℕ)) {r : Option ℕ} (e : r ≡ position test bs) where
+  pub found : (k : ℕ) → r ≡ Some k → (k ≡ place test bs) × (k < length bs)
+  found k f = go (ltb (place test bs) (length bs)) refl (sym f ∙ (e ∙ position_is test bs))
+    where
+      go : (t : Bool) → ltb (place test bs) (length bs) ≡ t → Some k ≡ cond t (Some (place test bs)) None → (k ≡ place test bs) × (k < length bs)
+      go true h g = let i : k ≡ place test bs = cc in let l = ltb-true (place test bs) (length bs) h in (i, omega arith)
+      go false h g = absurd (cc)
+
+  pub missed : r ≡ None → length bs ≤ place test bs
+  missed f = go (ltb (place test bs) (length bs)) refl (sym f ∙ (e ∙ position_is test bs))
+    where
+      go : (t : Bool) → ltb (place test bs) (length bs) ≡ t → ◌≡◌ {A = Option ℕ} None (cond t (Some (place test bs)) None) → length bs ≤ place test bs
+      go true h g = absurd (cc)
+      go false h g = ltb-false (place test bs) (length bs) h
+
+pub held_is : (n : ℕ) (bs : List (List ℕ)) {r : Option ℕ} → r ≡ position (has n) bs → is_some r ≡ holds n (arms bs)
+held_is n bs e = rw (e ∙ position_is (has n) bs, held_place n bs) (go (ltb (place (has n) bs) (length bs)))
+  where
+    go : (t : Bool) → is_some (cond t (Some (place (has n) bs)) None) ≡ t
+    go true = refl
+    go false = refl
+
+-- the arm of a number, or none
+module _ (n : ℕ) (bs : List (List ℕ)) {r : Option ℕ} (e : r ≡ position (has n) bs) where
+  pub there_held : (k : ℕ) → r ≡ Some k → holds n (arms bs) ≡ true
+  there_held k f = let p = found (has n) bs e k f in held_place n bs ∙ lt-ltb (place (has n) bs) (length bs) (rw p.0 at p.1)
+
+  pub not_held : r ≡ None → holds n (arms bs) ≡ false
+  not_held f = held_place n bs ∙ le-ltb (place (has n) bs) (length bs) (missed (has n) bs e f)
+
+  pub pick_at : (k : ℕ) → r ≡ Some k → (pick n (arms bs)).numbers ≡ arm (get_or bs k [])
+  unfolding arm_of
+  pick_at k f =
+      let p = found (has n) bs e k f in
+      ap (λ (a : Arm). a.numbers) (rw (← p.0) at (pick_place n bs (rw p.0 at p.1)))
+
+-- blocks that are not refused
+module _ (bs : List (List ℕ)) (v : judge [] bs ≡ 0) where
+  sound : Each Sound bs
+  sound = (judged_sound [] bs v no_arm).0
+
+  pub never_0 : None ≡ position (has 0) bs
+  never_0 =
+      let p : place (has 0) bs ≡ length bs = place_same (has 0) (λ b. false) (each_map has_0 sound) ∙ place_never bs in
+      let l : ltb (place (has 0) bs) (length bs) ≡ false = le-ltb (place (has 0) bs) (length bs) (omega arith) in
+      sym (position_is (has 0) bs ∙ rw l)
+
+  pub has_at : (n : ℕ) → (n ≡ 0 → ⊥) → position (named n) bs ≡ position (has n) bs
+  has_at n h = position_is (named n) bs ∙ (rw (sym (place_same (has n) (named n) (each_map (has_named n h) sound))) (sym (position_is (has n) bs)))
 
 -- a block replaced, in bytes
 replace_flat : (test : List ℕ → Bool) (new : List ℕ) {bs : List (List ℕ)} → Each (λ b. length b ≡ 512) bs → place test bs < length bs
@@ -150,41 +197,26 @@ module _ (l : List ℕ) (v : Valid l) where
   pub valid_whole : length l % 512 ≡ 0
   valid_whole = let e = valid_long in omega arith
 
-  pub never_0 : length l ≡ 512 * place (has 0) (blocks l)
-  never_0 = valid_long ∙ ap (λ (k : ℕ). 512 * k) (sym (place_same (has 0) (λ b. false) (each_map has_0 (good_of l v).sound) ∙ place_never (blocks l)))
-
-  pub place_named : (n : ℕ) → (n ≡ 0 → ⊥) → place (named n) (blocks l) ≡ place (has n) (blocks l)
-  place_named n h = sym (place_same (has n) (named n) (each_map (has_named n h) (good_of l v).sound))
-
   pub empty_place : place (named 0) (blocks l) ≡ place zeros (blocks l)
   empty_place = sym (place_same zeros (named 0) (each_map empty_named (good_of l v).sound))
 
-  module _ (n : ℕ) {at : ℕ} (e : at ≡ 512 * place (has n) (blocks l)) where
-    pub there_held : at < length l → holds n (arms (blocks l)) ≡ true
-    there_held h = let k = valid_long in held_place n (blocks l) ∙ lt-ltb (place (has n) (blocks l)) (length (blocks l)) (omega arith)
+  module _ {r : Option ℕ} (e : r ≡ position (named 0) (blocks l)) where
+    pub free_at : (k : ℕ) → r ≡ Some k → (k ≡ place zeros (blocks l)) × (k < length (blocks l))
+    free_at k f = let p = found (named 0) (blocks l) e k f in (p.0 ∙ empty_place, p.1)
 
-    pub not_held : length l ≤ at → holds n (arms (blocks l)) ≡ false
-    not_held h = let k = valid_long in held_place n (blocks l) ∙ le-ltb (place (has n) (blocks l)) (length (blocks l)) (omega arith)
+    pub room_there : (k : ℕ) → r ≡ Some k → room (blocks l) ≡ true
+    room_there k f = let p = free_at k f in room_place (blocks l) ∙ lt-ltb (place zeros (blocks l)) (length (blocks l)) (rw p.0 at p.1)
 
-    pub pick_at : at < length l → (pick n (arms (blocks l))).numbers ≡ arm (take 512 (drop at l))
-    unfolding arm_of
-    pick_at h =
-        let k = valid_long in
-        let p = pick_place n (good_of l v).sizes (omega arith) in
-        ap (λ (a : Arm). a.numbers) (rw (← e, flat_blocks l) at p)
+    pub no_room : r ≡ None → room (blocks l) ≡ false
+    no_room f = room_place (blocks l) ∙ le-ltb (place zeros (blocks l)) (length (blocks l)) (rw empty_place at (missed (named 0) (blocks l) e f))
 
-  module _ {at : ℕ} (e : at ≡ 512 * place zeros (blocks l)) where
-    pub room_there : at < length l → room (blocks l) ≡ true
-    room_there h = let k = valid_long in room_place (blocks l) ∙ lt-ltb (place zeros (blocks l)) (length (blocks l)) (omega arith)
+  pub block_within : (k : ℕ) → k < length (blocks l) → 512 * k + 512 ≤ length l
+  block_within k h = let m = valid_long in omega arith
 
-    pub no_room : length l ≤ at → room (blocks l) ≡ false
-    no_room h = let k = valid_long in room_place (blocks l) ∙ le-ltb (place zeros (blocks l)) (length (blocks l)) (omega arith)
-
-  pub replace_at : (test : List ℕ → Bool) (new : List ℕ) {at : ℕ} → at ≡ 512 * place test (blocks l) → at < length l
-      → flat (replace test new (blocks l)) ≡ take at l ++ (new ++ drop (at + 512) l)
-  replace_at test new e h =
-      let k = valid_long in
-      let r = replace_flat test new (good_of l v).sizes (omega arith) in
+  pub replace_at : (test : List ℕ → Bool) (new : List ℕ) (k : ℕ) → k ≡ place test (blocks l) → k < length (blocks l)
+      → flat (replace test new (blocks l)) ≡ take (512 * k) l ++ (new ++ drop (512 * k + 512) l)
+  replace_at test new k e h =
+      let r = replace_flat test new (good_of l v).sizes (rw e at h) in
       rw (← e, flat_blocks l) at r
 
   pub empty_at : (at : ℕ) → at % 512 ≡ 0 → at < length l → zeros (take 512 (drop at l)) ≡ named 0 (take 512 (drop at l))

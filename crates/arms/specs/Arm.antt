@@ -1,6 +1,6 @@
 -- Numbered arms, the calls, what a call is refused for and what it gives: what the file of arms (File.antt) and the plain list (Plain.antt) have in common.
 -- Document 02, request 7: "The operations are put (into the first empty block), find, take out (the block becomes zero) and compact".
-use Rattle.std.specs.Prelude.{ℕ, Bool, false, cond, ◌||◌, List, [], ◌∷◌, eqb, Float, length, replicate}
+use Rattle.std.specs.Prelude.{ℕ, Bool, false, cond, ◌||◌, Result, Ok, Err, List, [], ◌∷◌, eqb, Float, length, replicate}
 use Rattle.float.specs.Num.{nought}
 use Rattle.refusals.specs.Judge.{all_finite}
 
@@ -58,6 +58,11 @@ arm_given refused held (put arm) = []
 arm_given refused held (find n) = cond (eqb refused 0) (pick n held).numbers zeros_39
 arm_given refused held (take_out n) = []
 arm_given refused held compact = []
+
+-- the same of a result: the arm, or 39 zeros
+abbrev pub arm_or_zeros : {R : Type 0} → Result (List Float) R → List Float
+arm_or_zeros (Ok arm) = arm
+arm_or_zeros (Err refused) = zeros_39
 
 -- what a call gives
 pub record Gave : Type 0 where

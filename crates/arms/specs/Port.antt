@@ -1,12 +1,7 @@
 -- What the port's functions promise each other; no definition of the file goes by these.
-use Rattle.std.specs.Prelude.{ℕ, suc, ◌+◌, ◌≤◌, ◌≡◌, Bool, false, cond, ◌||◌, List, [], ◌∷◌, ◌++◌, eqb, length, take, drop}
+use Rattle.std.specs.Prelude.{ℕ, ◌+◌, ◌≤◌, ◌≡◌, Bool, false, cond, ◌||◌, List, ◌++◌, eqb, length, take, drop}
 use Rattle.arms.specs.Arm.{Arm, holds}
 use Rattle.arms.specs.File.{blocks, flat, number, front}
-
--- how many blocks stand before the first that passes a test; all of them, where none does
-unfoldable pub place : (List ℕ → Bool) → List (List ℕ) → ℕ
-place test [] = 0
-place test (b ∷ bs) = cond (test b) 0 (suc (place test bs))
 
 -- a block's number bytes have this number. In a valid buffer 0 is that of the empty blocks, and another that of the block that holds it.
 abbrev pub named : ℕ → List ℕ → Bool

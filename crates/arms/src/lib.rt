@@ -1,75 +1,56 @@
 // The file of arms: a buffer of 512-byte blocks, judged block by block, and the four calls on it. Each
-// public function equals its definition in specs/ on every input. A place is that of a byte, so a
-// block begins at a multiple of 512.
+// public function equals its definition in specs/ on every input.
 #![tactic(auto)]
 
-ghost use Rattle.std.specs.Prelude.{◌≡◌, false, cond, [], ◌+◌, ◌*◌, ◌%◌, ◌≤◌, ◌<◌, length, get_or, take, drop, replicate};
+ghost use Rattle.std.specs.Prelude.{◌≡◌, false, cond, [], ◌+◌, ◌*◌, ◌%◌, ◌≤◌, ◌<◌, length, get_or, take, drop, position, IfOk};
 ghost use Rattle.std.specs.Float.{binary64};
 ghost use Rattle.std.specs.Float.Ieee.{of_bits};
 ghost use Rattle.float.specs.Number.{is_finite};
 ghost use Rattle.refusals.specs.Judge.{all_finite};
+ghost use Rattle.refusals.specs.Refusal.{number_of};
 ghost use Rattle.words.specs.Words.{zeros};
 ghost use Rattle.block.specs.Block.{arm};
-ghost use Rattle.arms.specs.Arm.{numbered, holds, put_fault, put, find, take_out, compact};
-ghost use Rattle.arms.specs.File.{blocks, flat, number, rest, arms, block_fault, judge, little, eights, block_of, has, room, effect, refusal, gives, after};
+ghost use Rattle.arms.specs.Arm.{numbered, holds, put_fault, put, find, take_out, compact, arm_or_zeros};
+ghost use Rattle.arms.specs.File.{blocks, flat, number, rest, arms, block_fault, judge, eights, block_of, has, room, effect, refusal, gives, after};
 ghost use Rattle.arms.specs.Agreement.{Valid};
-ghost use Rattle.arms.specs.Port.{place, named, fault_by, Told, Moved, Fronted};
+ghost use Rattle.arms.specs.Port.{named, fault_by, Told, Moved, Fronted};
 
 use block::{check, damage};
-use refusals::all_finite;
-use words::{byte, pattern, word, zeros};
-
-// The number of an arm block, byte 0.
-fn number(b: &[u8]) -> u64
-    requires { 0 < length b.now }
-    ensures { result ≡ number b.now }
-{
-    byte(b, 0)
-}
+use refusals::{Refusal, all_finite};
+use words::{pattern, word, zeros};
 
 // Whether the rest of an arm block is zero: bytes 1 to 7 of word 0, and words 40 to 62.
+#[tactic(auto, unfolding(crate::specs::File::rest))]
 fn rest(b: &[u8]) -> bool
     requires { 504 ≤ length b.now }
     ensures { result ≡ rest b.now }
 {
-    let beside = zeros(&b[1..8]);
-    let behind = zeros(&b[320..504]);
-    beside & behind
+    zeros(&b[1..8]) && zeros(&b[320..504])
 }
 
-// The place of the first block with a number, or the length. Only the number is looked at.
-fn place_of(buffer: &[u8], n: u64) -> usize
-    requires { length buffer.now % 512 ≡ 0 }
-    ensures { result ≡ 512 * place (named n) (blocks buffer.now) }
+// The first block with a number. Only the number is looked at.
+fn place_of(blocks: &[[u8; 512]], n: u8) -> Option<usize>
+    ensures { result ≡ position (named n) blocks.now }
 {
-    let mut place = 0;
-    while place < buffer.len() {
-        let end = place + 512;
-        if number(&buffer[place..end]) == n {
-            return place;
-        }
-        place = end;
-    }
-    buffer.len()
+    blocks.iter().position(|b| b[0] == n)
 }
 
-// The place of the block that holds the arm of a number, or the length. In a valid buffer 0 is the
-// number of the empty blocks alone.
-fn held_at(buffer: &[u8], n: u64) -> usize
-    requires { Valid buffer.now }
-    ensures { result ≡ 512 * place (has n) (blocks buffer.now) }
+// The block that holds the arm of a number. In valid blocks 0 is the number of the empty ones alone.
+fn held_at(blocks: &[[u8; 512]], n: u8) -> Option<usize>
+    requires { judge [] blocks.now ≡ 0 }
+    ensures { result ≡ position (has n) blocks.now }
 {
     if n == 0 {
-        return buffer.len();
+        return None;
     }
-    place_of(buffer, n)
+    place_of(blocks, n)
 }
 
-fn held(buffer: &[u8], n: u64) -> bool
-    requires { Valid buffer.now }
-    ensures { result ≡ holds n (arms (blocks buffer.now)) }
+fn held(blocks: &[[u8; 512]], n: u8) -> bool
+    requires { judge [] blocks.now ≡ 0 }
+    ensures { result ≡ holds n (arms blocks.now) }
 {
-    held_at(buffer, n) < buffer.len()
+    held_at(blocks, n).is_some()
 }
 
 // Whether a word is the pattern of a finite number.
@@ -84,264 +65,176 @@ fn finite(b: &[u8]) -> bool
     requires { 512 ≤ length b.now }
     ensures { result ≡ all_finite (arm b.now) }
 {
-    let mut i = 1;
-    while i < 40 {
-        if !finite_word(word(b, i)) {
-            return false;
-        }
-        i += 1;
-    }
-    true
+    (1..40usize).all(|i| finite_word(word(b, i)))
 }
 
 // What an arm is refused for where these blocks hold arms already: 8, then 13. For an arm that is put
-// they are the buffer, for the arm of a block those before it. A number that is not marked is new; the
+// they are the buffer's, for the arm of a block those before it. A number that is not marked is new; the
 // others are looked for.
-fn arm_fault(earlier: &[u8], number: u64, finite: bool, marked: bool) -> u64
-    requires { Valid earlier.now × Told marked number (arms (blocks earlier.now)) }
-    ensures { result ≡ fault_by (arms (blocks earlier.now)) number finite }
+#[tactic(auto, unfolding(crate::specs::Port::fault_by))]
+fn arm_fault(earlier: &[[u8; 512]], number: u8, finite: bool, marked: bool) -> Result<(), Refusal>
+    requires { (judge [] earlier.now ≡ 0) × Told marked number (arms earlier.now) }
+    ensures { number_of result ≡ fault_by (arms earlier.now) number finite }
 {
     if !finite {
-        return 8;
+        return Err(Refusal::NotFinite);
     }
-    if number == 0 {
-        return 13;
+    if number == 0 || marked && held(earlier, number) {
+        return Err(Refusal::ArmNumber);
     }
-    if !marked {
-        return 0;
-    }
-    if held(earlier, number) { 13 } else { 0 }
+    Ok(())
 }
 
-// What a block is refused for that is not empty: 1 and 2 as any block, 3, and then for its arm.
-fn block_fault(earlier: &[u8], b: &[u8], marked: bool) -> u64
-    requires { Valid earlier.now × (zeros b.now ≡ false) × Told marked (number b.now) (arms (blocks earlier.now)) }
-    ensures { result ≡ block_fault (arms (blocks earlier.now)) b.now }
+// What a block is refused for: nothing where it is empty, else 1 and 2 as any block, 3, and then for its
+// arm.
+#[tactic(auto, using(crate::proofs::Bytes::empty_fault), unfolding(crate::specs::File::block_fault, crate::specs::File::number, crate::specs::File::arm_of, crate::specs::Port::fault_by, crate::specs::Arm::arm_fault))]
+fn block_fault(earlier: &[[u8; 512]], b: &[u8; 512], marked: bool) -> Result<(), Refusal>
+    requires { (judge [] earlier.now ≡ 0) × Told marked (number b.now) (arms earlier.now) }
+    ensures { number_of result ≡ block_fault (arms earlier.now) b.now }
 {
-    let damaged = damage(b);
-    if damaged != 0 {
-        return damaged;
+    if zeros(b) {
+        return Ok(());
     }
-    if rest(b) {
-        return arm_fault(earlier, number(b), finite(b), marked);
+    damage(b)?;
+    if !rest(b) {
+        return Err(Refusal::Reserved);
     }
-    3
+    arm_fault(earlier, b[0], finite(b), marked)
 }
 
-// What the block at a place is refused for, where none before it is.
-fn fault_at(buffer: &[u8], at: usize, marked: bool) -> u64
-    requires { (at < length buffer.now) × Valid (take at buffer.now) × Told marked (get_or buffer.now at 0) (arms (blocks (take at buffer.now))) }
-    ensures { result ≡ block_fault (arms (blocks (take at buffer.now))) (take 512 (drop at buffer.now)) }
+// The buffer judged, block by block: its blocks, or the first refusal. The numbers of the blocks before
+// are marked, so that only a number that comes again is looked for.
+fn judge(buffer: &[u8]) -> Result<&[[u8; 512]], Refusal>
+    ensures refusal { number_of result ≡ judge [] (blocks buffer.now) }
+    ensures whole { IfOk result (λ bs. bs.now ≡ blocks buffer.now) }
 {
-    if buffer.len() - at < 512 {
-        return 1;
-    }
-    let end = at + 512;
-    if zeros(&buffer[at..end]) {
-        return 0;
-    }
-    block_fault(&buffer[0..at], &buffer[at..end], marked)
-}
-
-// The buffer judged, block by block: the first refusal, or 0. The numbers of the blocks before the
-// place are marked, so that only a number that comes again is looked for.
-fn judge(buffer: &[u8]) -> u64
-    ensures { result ≡ judge [] (blocks buffer.now) }
-{
+    let (blocks, short) = buffer.as_chunks::<512>();
     let mut seen = [false; 256];
-    let mut at = 0;
-    while at < buffer.len() {
-        let n = byte(buffer, at) as usize;
-        let fault = fault_at(buffer, at, seen[n]);
-        if fault != 0 {
-            return fault;
-        }
+    for (k, b) in blocks.iter().enumerate() {
+        let n = b[0] as usize;
+        block_fault(&blocks[..k], b, seen[n])?;
         seen[n] = true;
-        at += 512;
     }
-    0
+    if !short.is_empty() {
+        return Err(Refusal::ShortBlock);
+    }
+    Ok(blocks)
 }
 
-// Find: the arm of a number, or 39 zeros where it is refused.
-pub fn find(buffer: &[u8], number: u8, arm: &mut [f64; 39]) -> u64
-    ensures result { result ≡ refusal (find number) buffer.now }
-    ensures arm { arm.new ≡ (gives (find number) buffer.now).arm }
+// Find: the arm of a number.
+pub fn find(buffer: &[u8], number: u8) -> Result<[f64; 39], Refusal>
+    ensures result { number_of result ≡ refusal (find number) buffer.now }
+    ensures arm { arm_or_zeros result ≡ (gives (find number) buffer.now).arm }
 {
-    *arm = [0.0; 39];
-    let fault = judge(buffer);
-    if fault != 0 {
-        return fault;
-    }
-    let at = held_at(buffer, number as u64);
-    if at < buffer.len() {
-        let end = at + 512;
-        *arm = block::arm(&buffer[at..end]);
-        return 0;
-    }
-    14
-}
-
-// Every byte becomes zero.
-fn clear(b: &mut [u8])
-    ensures { b.new ≡ replicate (length b.old) 0 }
-{
-    let mut i = 0;
-    while i < b.len() {
-        b[i] = 0;
-        i += 1;
+    let blocks = judge(buffer)?;
+    match held_at(blocks, number) {
+        Some(k) => Ok(block::arm(&blocks[k])),
+        None => Err(Refusal::NotHeld),
     }
 }
 
 // Take out: the block of the number becomes zero.
-pub fn take_out(buffer: &mut [u8], number: u8) -> u64
-    ensures result { result ≡ refusal (take_out number) buffer.old }
+pub fn take_out(buffer: &mut [u8], number: u8) -> Result<(), Refusal>
+    ensures result { number_of result ≡ refusal (take_out number) buffer.old }
     ensures buffer { buffer.new ≡ after (take_out number) buffer.old }
 {
-    let fault = judge(buffer);
-    if fault != 0 {
-        return fault;
-    }
-    let from = held_at(buffer, number as u64);
-    if from < buffer.len() {
-        let past = from + 512;
-        clear(&mut buffer[from..past]);
-        0
-    } else {
-        14
+    match held_at(judge(buffer)?, number) {
+        Some(k) => {
+            let at = 512 * k;
+            buffer[at..at + 512].fill(0);
+            Ok(())
+        }
+        None => Err(Refusal::NotHeld),
     }
 }
 
-// The 512 bytes from a place on are copied to a place that is not behind it, upwards, so that overlap
-// does no harm.
+// The 512 bytes from a place on are copied to a place that is not behind it.
 fn move_down(b: &mut [u8], from: usize, to: usize)
     requires { (to ≤ from) × (from + 512 ≤ length b.old) }
     ensures { Moved from to b.old b.new }
 {
-    if to == from {
-        return;
-    }
-    let mut j = 0;
-    while j < 512 {
-        b[to + j] = b[from + j];
-        j += 1;
+    if to != from {
+        b.copy_within(from..from + 512, to);
     }
 }
 
 // The held blocks are moved to the front, in their order; the result is the place behind them. In a
-// valid buffer the empty blocks are those with the number 0.
+// valid buffer the empty blocks are those with the number 0. (Blocks are written as bytes, since std does
+// not say what the bytes become that `as_chunks_mut` lends.)
 fn to_front(buffer: &mut [u8]) -> usize
     requires { Valid buffer.old }
     ensures { Fronted result buffer.old buffer.new }
 {
     let mut behind = 0;
-    let mut from = 0;
-    while from < buffer.len() {
-        let end = from + 512;
-        if number(&buffer[from..end]) == 0 {
-            from = end;
-        } else {
+    for k in 0..buffer.len() / 512 {
+        let from = 512 * k;
+        if buffer[from] != 0 {
             move_down(buffer, from, behind);
             behind += 512;
-            from = end;
         }
     }
     behind
 }
 
 // Compact: the held arms to the front in their order, and zeros behind them.
-pub fn compact(buffer: &mut [u8]) -> u64
-    ensures result { result ≡ refusal compact buffer.old }
+pub fn compact(buffer: &mut [u8]) -> Result<(), Refusal>
+    ensures result { number_of result ≡ refusal compact buffer.old }
     ensures buffer { buffer.new ≡ after compact buffer.old }
 {
-    let fault = judge(buffer);
-    if fault != 0 {
-        return fault;
-    }
+    judge(buffer)?;
     let behind = to_front(buffer);
-    let last = buffer.len();
-    clear(&mut buffer[behind..last]);
-    0
+    buffer[behind..].fill(0);
+    Ok(())
 }
 
-// The bytes of a number, the least significant first, as many as there are.
-fn put_bytes(b: &mut [u8], v: u64)
-    ensures { b.new ≡ little (length b.old) v }
-{
-    let mut i = 0;
-    let mut left = v;
-    while i < b.len() {
-        b[i] = (left % 256) as u8;
-        left = left / 256;
-        i += 1;
-    }
-}
-
-// The bytes of numbers, eight for each.
+// The bytes of numbers, eight for each, the least significant first.
 fn put_numbers(b: &mut [u8], numbers: &[f64])
     requires { length b.old ≡ 8 * length numbers.now }
     ensures { b.new ≡ eights numbers.now }
 {
-    let mut i = 0;
-    while i < numbers.len() {
+    for (i, x) in numbers.iter().enumerate() {
         let at = 8 * i;
-        let end = at + 8;
-        let bits = pattern(numbers[i]);
-        put_bytes(&mut b[at..end], bits);
-        i += 1;
+        b[at..at + 8].copy_from_slice(&pattern(*x).to_le_bytes());
     }
 }
 
 // The block of an arm.
-fn put_block(b: &mut [u8], number: u64, arm: &[f64])
+fn put_block(b: &mut [u8], number: u8, arm: &[f64])
     requires { (length b.old ≡ 512) × (length arm.now ≡ 39) }
     ensures { b.new ≡ block_of (numbered number arm.now) }
 {
-    clear(b);
-    put_bytes(&mut b[0..1], number);
+    b.fill(0);
+    b[0] = number;
     put_numbers(&mut b[8..320], arm);
     let sum = check(b);
-    put_bytes(&mut b[504..512], sum);
+    b[504..512].copy_from_slice(&sum.to_le_bytes());
 }
 
 // What an arm that is put is refused for, but for the room: 5, 8, 13.
-fn put_fault(buffer: &[u8], number: u64, arm: &[f64]) -> u64
-    requires { Valid buffer.now }
-    ensures { result ≡ put_fault (arms (blocks buffer.now)) (numbered number arm.now) }
+#[tactic(auto, unfolding(crate::specs::Port::fault_by, crate::specs::Arm::put_fault, crate::specs::Arm::arm_fault))]
+fn put_fault(blocks: &[[u8; 512]], number: u8, arm: &[f64]) -> Result<(), Refusal>
+    requires { judge [] blocks.now ≡ 0 }
+    ensures { number_of result ≡ put_fault (arms blocks.now) (numbered number arm.now) }
 {
     if arm.len() != 39 {
-        return 5;
+        return Err(Refusal::ArmLength);
     }
-    arm_fault(buffer, number, all_finite(arm), true)
-}
-
-// The arm goes into the first empty block, or 15 where there is none.
-fn put_first(buffer: &mut [u8], number: u64, arm: &[f64]) -> u64
-    requires { Valid buffer.old × (length arm.now ≡ 39) }
-    ensures result { result ≡ cond (room (blocks buffer.old)) 0 15 }
-    ensures buffer { buffer.new ≡ cond (room (blocks buffer.old)) (flat (effect (put (numbered number arm.now)) (blocks buffer.old))) buffer.old }
-{
-    let at = place_of(buffer, 0);
-    if at < buffer.len() {
-        let end = at + 512;
-        put_block(&mut buffer[at..end], number, arm);
-        return 0;
-    }
-    15
+    arm_fault(blocks, number, all_finite(arm), true)
 }
 
 // Put: the arm goes into the first empty block.
-pub fn put(buffer: &mut [u8], number: u8, arm: &[f64]) -> u64
-    ensures result { result ≡ refusal (put (numbered number arm.now)) buffer.old }
+pub fn put(buffer: &mut [u8], number: u8, arm: &[f64]) -> Result<(), Refusal>
+    ensures result { number_of result ≡ refusal (put (numbered number arm.now)) buffer.old }
     ensures buffer { buffer.new ≡ after (put (numbered number arm.now)) buffer.old }
 {
-    let of_buffer = judge(buffer);
-    if of_buffer != 0 {
-        return of_buffer;
+    let blocks = judge(buffer)?;
+    put_fault(blocks, number, arm)?;
+    match place_of(blocks, 0) {
+        Some(k) => {
+            let at = 512 * k;
+            put_block(&mut buffer[at..at + 512], number, arm);
+            Ok(())
+        }
+        None => Err(Refusal::FileFull),
     }
-    let n = number as u64;
-    let of_arm = put_fault(buffer, n, arm);
-    if of_arm != 0 {
-        return of_arm;
-    }
-    put_first(buffer, n, arm)
 }

@@ -4,7 +4,7 @@ use Rattle.std.specs.Prelude.{ℕ, cond, List, [], eqb, Float}
 use Rattle.answers.specs.declared.Answer.{Answer}
 use Rattle.block.specs.Block.{refusal, family, samples, arm, pose}
 use Rattle.solve.specs.Solve.{answers, solve}
-use Rattle.solve.specs.declared.Solved.{Solved}
+use Rattle.solve.specs.InNumbers.{Solved}
 
 -- refusals 1 to 3, or what the solve call gives that has room for so many answers
 unfoldable pub solve_block : List ℕ → List Float → ℕ → Solved

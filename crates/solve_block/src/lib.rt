@@ -3,23 +3,19 @@
 
 ghost use Rattle.std.specs.Prelude.{◌≡◌};
 ghost use Rattle.answers.specs.Written.{room, written, flagged};
+ghost use Rattle.solve.specs.InNumbers.{in_numbers};
 ghost use Rattle.solve_block.specs.SolveBlock.{solve_block, block_answers};
 
-use solve::{Solved, solve};
+use solve::{Solved, refuse, solve};
 
 // Judges a block and solves it: refusals 1 to 3, or what the solve call gives.
 pub fn solve_block(bytes: &[u8], limits: &[f64], angles: &mut [f64], flags: &mut [u8]) -> Solved
-    ensures result { result ≡ solve_block bytes.now limits.now (room angles.old flags.old) }
+    ensures result { in_numbers result ≡ solve_block bytes.now limits.now (room angles.old flags.old) }
     ensures angles { angles.new ≡ written (block_answers bytes.now limits.now) angles.old flags.old }
     ensures flags { flags.new ≡ flagged (block_answers bytes.now limits.now) angles.old flags.old }
 {
-    let refused = block::refusal(bytes);
-    if refused != 0 {
-        return Solved {
-            refusal: refused,
-            answers: 0,
-            evals: 0,
-        };
+    if let Err(refusal) = block::refusal(bytes) {
+        return refuse(refusal);
     }
     let family = block::family(bytes);
     let n = block::samples(bytes);

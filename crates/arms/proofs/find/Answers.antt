@@ -1,58 +1,63 @@
 -- 39 zeros where it is refused, and else the arm of its block.
-use Prim.Native.Nat.{ℕ, ◌+◌, ◌-◌, ◌*◌, ◌≤◌, ◌<◌}
-use mathlib.Core.Path.{◌≡◌, sym, ◌∙◌}
-use mathlib.Core.List.{List, []}
-use native.Mathlib.Omega.{arith}
-use lib.Ieee.{Float}
-use lib.ListN.{length, take, drop}
-use Rattle.block.specs.Block.{arm}
-use Rattle.arms.specs.Arm.{zeros_39, find, own}
-use Rattle.arms.specs.File.{blocks, judge, has, refusal, gives}
+use Rattle.std.proofs.Common.{◌≡◌, ℕ, Option, Some, None, List, refl, sym, ◌∙◌, arith, rules}
+use Rattle.std.specs.List.{position}
+use Rattle.refusals.specs.Refusal as Refusals
+use Rattle.arms.specs.Arm.{zeros_39, find, own, arm_or_zeros}
+use Rattle.arms.specs.File.{blocks, has, refusal}
 use Rattle.arms.specs.Agreement.{Valid}
-use Rattle.arms.specs.Port.{place}
-use Rattle.arms.proofs.Places.{valid_long, there_held, not_held, pick_at}
-use Rattle.arms.proofs.Calls.{bad, own_next, gives_none, gives_arm}
+use Rattle.arms.proofs.Places.{there_held, not_held, pick_at}
+use Rattle.arms.proofs.Calls.{refused, bad, own_next, gives_none, gives_arm}
 use Rattle.arms.proofs.find.Goals as goal
 
-module _ (l : List ℕ) (n : ℕ) {fault : ℕ} (e : fault ≡ judge [] (blocks l)) where
-  bad-refused : (fault ≡ 0 → ⊥) → fault ≡ refusal (find n) l
-  bad-refused h = bad (find n) l e h
+module _ (l : List ℕ) (n : ℕ) (v : Valid l) {r : Option ℕ} (e : r ≡ position (has n) (blocks l)) where
+  found : (k : ℕ) → r ≡ Some k → 0 ≡ refusal (find n) l
+  unfolding own
+  found k f = rw (there_held n (blocks l) e k f) at (own_next (find n) l (sym v) refl)
 
-  bad-gives : (fault ≡ 0 → ⊥) → zeros_39 ≡ (gives (find n) l).arm
-  bad-gives h = gives_none n l (bad-refused h) h
+  none : r ≡ None → 14 ≡ refusal (find n) l
+  unfolding own
+  none f = rw (not_held n (blocks l) e f) at (own_next (find n) l (sym v) refl)
 
-  module _ (ok : fault ≡ 0) where
-    valid : Valid l
-    valid = sym e ∙ ok
+pub returns-in_err-blocks-clause-result : goal.returns-in_err-blocks-clause-result
+returns-in_err-blocks-clause-result c =
+    let r = c.in_err-blocks.field-0.0 in
+    let e : Refusals.number_of c.from_residual.result ≡ Refusals.number r = search rules in
+    e ∙ bad (find c.args.number) c.args.buffer.now c.in_err-blocks.ensures.refusal (refused r)
 
-    module _ {at : ℕ} (e-at : at ≡ 512 * place (has n) (blocks l)) where
-      inside : at < length l → at + 512 ≤ length l
-      inside h = let k = valid_long l valid in omega arith
+pub returns-in_err-blocks-clause-arm : goal.returns-in_err-blocks-clause-arm
+returns-in_err-blocks-clause-arm c =
+    let r = c.in_err-blocks.field-0.0 in
+    let e : arm_or_zeros c.from_residual.result ≡ zeros_39 = search rules in
+    e ∙ gives_none c.args.number c.args.buffer.now (bad (find c.args.number) c.args.buffer.now c.in_err-blocks.ensures.refusal (refused r)) (refused r)
 
-      found : at < length l → 0 ≡ refusal (find n) l
-      unfolding own
-      found h = rw (there_held l valid n e-at h) at (own_next (find n) l e ok)
+pub held_at-requires : goal.held_at-requires
+held_at-requires c =
+    let v = sym c.in_ok-blocks.ensures.refusal in
+    rw c.in_ok-blocks.ensures.whole v
 
-      found-arm : {xs : List Float} → at < length l → xs ≡ arm (take (at + 512 - at) (drop at l)) → xs ≡ (gives (find n) l).arm
-      found-arm h e-xs =
-          let k : at + 512 - at ≡ 512 = omega arith in
-          rw k at e-xs ∙ (sym (pick_at l valid n e-at h) ∙ gives_arm n l (found h))
+pub returns-in-Some-clause-result : goal.returns-in-Some-clause-result
+returns-in-Some-clause-result c =
+    let v = sym c.in_ok-blocks.ensures.refusal in
+    let e = rw c.in_ok-blocks.ensures.whole at c.in-Some.ensures in
+    found c.args.buffer.now c.args.number v e c.in-Some.k refl
 
-      none : length l ≤ at → 14 ≡ refusal (find n) l
-      unfolding own
-      none h = rw (not_held l valid n e-at h) at (own_next (find n) l e ok)
+pub returns-in-Some-clause-arm : goal.returns-in-Some-clause-arm
+returns-in-Some-clause-arm c =
+    let l = c.args.buffer.now in
+    let n = c.args.number in
+    let v = sym c.in_ok-blocks.ensures.refusal in
+    let b = c.in_ok-blocks.ensures.whole in
+    let e = rw b at c.in-Some.ensures in
+    rw b at c.arm.ensures ∙ (sym (pick_at n (blocks l) e c.in-Some.k refl) ∙ gives_arm n l (found l n v e c.in-Some.k refl))
 
-      none-gives : length l ≤ at → zeros_39 ≡ (gives (find n) l).arm
-      none-gives h = gives_none n l (none h) (λ z. omega arith)
+pub returns-in-None-clause-result : goal.returns-in-None-clause-result
+returns-in-None-clause-result c =
+    let v = sym c.in_ok-blocks.ensures.refusal in
+    let e = rw c.in_ok-blocks.ensures.whole at c.in-None.ensures in
+    none c.args.buffer.now c.args.number v e refl
 
-pub returns-then-fault-ne0 : goal.returns-then-fault-ne0
-returns-then-fault-ne0 c = record { result = search bad-refused; arm = search bad-gives }
-
-pub slice_bounds-arm-end : goal.slice_bounds-arm-end
-slice_bounds-arm-end c = search inside
-
-pub returns-then-at-buffer : goal.returns-then-at-buffer
-returns-then-at-buffer c = record { result = search found; arm = search found-arm }
-
-pub returns : goal.returns
-returns c = record { result = search none; arm = search none-gives }
+pub returns-in-None-clause-arm : goal.returns-in-None-clause-arm
+returns-in-None-clause-arm c =
+    let v = sym c.in_ok-blocks.ensures.refusal in
+    let e = rw c.in_ok-blocks.ensures.whole at c.in-None.ensures in
+    gives_none c.args.number c.args.buffer.now (none c.args.buffer.now c.args.number v e refl) (λ z. omega arith)

@@ -1,17 +1,14 @@
--- The words before i are finite, and the rest decides.
-use Prim.Native.Nat.{ℕ, suc, ◌+◌, ◌-◌, ◌≤◌, ◌<◌}
-use mathlib.Core.Path.{◌≡◌, refl, sym, ◌∙◌}
-use mathlib.Core.Bool.{Bool, true, false, cond, not, ◌&&◌}
-use mathlib.Core.List.{List, ◌∷◌}
-use native.Mathlib.Omega.{arith}
-use borrow.Author.Tests.{not-true, not-false, lt-leb}
+-- The words pass the test exactly if the numbers are finite.
+use Rattle.std.proofs.Common.{◌≡◌, ℕ, zero, suc, ◌+◌, Bool, true, false, cond, ◌&&◌, List, ◌∷◌, length, refl, sym, ap, ◌∙◌, arith, rules, tests}
+use borrow.Author.Tests.{lt-leb}
 use lib.Dec.{leb, leb-suc-suc}
 use lib.Ieee.{Float, binary64, of_bits}
-use lib.ListN.{length}
+use Rattle.std.specs.List.{list_all, range_with_len}
+use Rattle.std.proofs.lemmas.Iterator.{YieldsList-from_range}
+use Rattle.std.proofs.lemmas.Iterator.Search.{all_from_yields_List}
 use Rattle.float.specs.Number.{is_finite}
 use Rattle.refusals.specs.Judge.{first_not_finite, all_finite}
 use Rattle.words.specs.Words.{word, numbers}
-use Rattle.block.specs.Block.{arm}
 use Rattle.arms.proofs.finite.Goals as goal
 
 with-one : (x : Float) (l : List Float) → all_finite (x ∷ l) ≡ (is_finite x && all_finite l)
@@ -22,33 +19,15 @@ with-one x l = go (is_finite x)
     go true = leb-suc-suc (length l) (first_not_finite l)
     go false = lt-leb (suc (length l)) 0 (omega arith)
 
-module _ (b : List ℕ) (i : ℕ) (e : all_finite (numbers b i (40 - i)) ≡ all_finite (arm b)) where
-  module _ {w : ℕ} {t : Bool} (h : i < 40) (e-w : w ≡ word b i) (e-t : t ≡ is_finite (of_bits binary64 w)) where
-    one : all_finite (numbers b i (40 - i)) ≡ (t && all_finite (numbers b (i + 1) (40 - (i + 1))))
-    unfolding numbers
-    one =
-        let k : 40 - i ≡ suc (40 - (i + 1)) = omega arith in
-        rw (k, e-t, e-w) (with-one (of_bits binary64 (word b i)) (numbers b (i + 1) (40 - (i + 1))))
+abbrev finite_at : List ℕ → ℕ → Bool
+finite_at b i = is_finite (of_bits binary64 (word b i))
 
-    stop : not t ≡ true → false ≡ all_finite (arm b)
-    stop u = let o = rw (not-true t u) at one in sym o ∙ e
-
-    on : not t ≡ false → all_finite (numbers b (i + 1) (40 - (i + 1))) ≡ all_finite (arm b)
-    on u = let o = rw (not-false t u) at one in sym o ∙ e
-
-  end : 40 ≤ i → true ≡ all_finite (arm b)
-  unfolding numbers first_not_finite
-  end h = let k : 40 - i ≡ 0 = omega arith in rw k at e
-
-pub returns-then-not-finite_word : goal.returns-then-not-finite_word
-returns-then-not-finite_word c = search stop
-
-pub loop-i-preserved : goal.loop-i-preserved
-loop-i-preserved c = (omega arith, omega arith, search on)
+all-words : (b : List ℕ) (first n : ℕ) → list_all (finite_at b) (range_with_len first n) ≡ all_finite (numbers b first n)
+unfolding numbers first_not_finite
+all-words b first zero = refl
+all-words b first (suc n) = ap (λ t. finite_at b first && t) (all-words b (first + 1) n) ∙ sym (with-one (of_bits binary64 (word b first)) (numbers b (first + 1) n))
 
 pub returns : goal.returns
-returns c = search end
-
-pub loop-i-init : goal.loop-i-init
-loop-i-init c =
-    (omega arith, omega arith, refl)
+returns c =
+    let b = c.args.b.now in
+    all_from_yields_List (finite_at b) _ _ c.all.result c.all.ensures.ran (YieldsList-from_range 1 40 39 refl refl) (λ x r q k. search (rules, tests)) ∙ all-words b 1 39

@@ -1,12 +1,7 @@
--- The blocks before the place are valid and their numbers marked, and what is refused is the block at it.
-use Prim.Native.Nat.{ℕ, ◌-◌, ◌%◌}
-use mathlib.Core.Path.{◌≡◌}
-use mathlib.Core.Bool.{Bool, false}
-use mathlib.Core.List.{List}
-use lib.ListN.{length, get_or, take}
+-- The blocks before are not refused and their numbers marked.
+use Rattle.std.proofs.Common.{◌≡◌, ℕ, [], Bool, false, List, length, get_or, take}
 use Rattle.arms.specs.Arm.{Arm}
-use Rattle.arms.specs.File.{blocks, arms}
-use Rattle.arms.specs.Agreement.{Valid}
+use Rattle.arms.specs.File.{arms, judge}
 use Rattle.arms.specs.Port.{Told}
 use Rattle.arms.proofs.judge.Given as goal
 
@@ -15,8 +10,5 @@ pub record Marks (seen : List Bool) (held : List Arm) : Type 0 where
   pub long : length seen ≡ 256
   pub told : (n : ℕ) → Told (get_or seen n false) n held
 
-abbrev pub invariant-loop-at : goal.invariant-loop-at
-invariant-loop-at l = (l.at % 512 ≡ 0) × Valid (take l.at l.buffer) × Marks l.seen (arms (blocks (take l.at l.buffer)))
-
-abbrev pub decreases-loop-at : goal.decreases-loop-at
-decreases-loop-at l = length l.buffer - l.at
+abbrev pub invariant-loop-k : goal.invariant-loop-k
+invariant-loop-k l = (judge [] (take l.k l.blocks) ≡ 0) × Marks l.seen (arms (take l.k l.blocks))

@@ -1,64 +1,82 @@
 -- The block of the number is cleared, and a refusal leaves the buffer as it came.
-use Prim.Native.Nat.{ℕ, ◌+◌, ◌-◌, ◌*◌, ◌≤◌, ◌<◌}
-use mathlib.Core.Path.{◌≡◌, sym, ◌∙◌}
-use mathlib.Core.List.{List, []}
-use native.Mathlib.Omega.{arith}
+use Rattle.std.proofs.Common.{◌≡◌, ℕ, ◌+◌, ◌-◌, ◌*◌, ◌≤◌, Option, Some, None, List, length, drop, replicate, refl, sym, ◌∙◌, arith, rules}
+use Rattle.std.specs.List.{position}
+use Rattle.refusals.specs.Refusal as Refusals
 use borrow.Rule.Slice.PartMut.{mid_of, put_mid}
-use lib.ListN.{length, drop, replicate, length-drop}
+use lib.ListN.{length-drop}
 use lib.Seq.{drop-drop, length-take-le}
 use Rattle.arms.specs.Arm.{take_out, own}
-use Rattle.arms.specs.File.{blocks, judge, empty, has, effect, refusal, after}
+use Rattle.arms.specs.File.{blocks, empty, has, effect, refusal, after}
 use Rattle.arms.specs.Agreement.{Valid}
-use Rattle.arms.specs.Port.{place}
-use Rattle.arms.proofs.Places.{valid_long, there_held, not_held, replace_at}
-use Rattle.arms.proofs.Calls.{bad, bad_kept, kept, done, own_next}
+use Rattle.arms.proofs.Places.{found, there_held, not_held, block_within, replace_at}
+use Rattle.arms.proofs.Calls.{refused, bad, bad_kept, kept, done, own_next}
 use Rattle.arms.proofs.take_out.Goals as goal
 
-module _ (l : List ℕ) (n : ℕ) {fault : ℕ} (e : fault ≡ judge [] (blocks l)) where
-  bad-refused : (fault ≡ 0 → ⊥) → fault ≡ refusal (take_out n) l
-  bad-refused h = bad (take_out n) l e h
+module _ (l : List ℕ) (n : ℕ) (v : Valid l) {r : Option ℕ} (e : r ≡ position (has n) (blocks l)) where
+  module _ (k : ℕ) (f : r ≡ Some k) where
+    inside : 512 * k + 512 ≤ length l
+    inside = block_within l v k (found (has n) (blocks l) e k f).1
 
-  bad-left : (fault ≡ 0 → ⊥) → l ≡ after (take_out n) l
-  bad-left h = bad_kept (take_out n) l e h
+    taken : 0 ≡ refusal (take_out n) l
+    unfolding own
+    taken = rw (there_held n (blocks l) e k f) at (own_next (take_out n) l (sym v) refl)
 
-  module _ (ok : fault ≡ 0) where
-    valid : Valid l
-    valid = sym e ∙ ok
+    taken-left : {m : List ℕ} → m ≡ replicate (length (mid_of (512 * k) (512 * k + 512 - 512 * k) l)) 0 → put_mid (512 * k) (512 * k + 512 - 512 * k) l m ≡ after (take_out n) l
+    unfolding effect empty
+    taken-left e-m =
+        let at = 512 * k in
+        let p = found (has n) (blocks l) e k f in
+        let j : at + 512 - at ≡ 512 = omega arith in
+        let i = inside in
+        let d = length-drop at l in
+        let s = length-take-le 512 (drop at l) (omega arith) in
+        rw (done (take_out n) l taken, replace_at l v (has n) empty k p.0 p.1, e-m, j, s, drop-drop 512 at l)
 
-    module _ {at : ℕ} (e-at : at ≡ 512 * place (has n) (blocks l)) where
-      inside : at < length l → at + 512 ≤ length l
-      inside h = let k = valid_long l valid in omega arith
+  none : r ≡ None → 14 ≡ refusal (take_out n) l
+  unfolding own
+  none f = rw (not_held n (blocks l) e f) at (own_next (take_out n) l (sym v) refl)
 
-      taken : at < length l → 0 ≡ refusal (take_out n) l
-      unfolding own
-      taken h = rw (there_held l valid n e-at h) at (own_next (take_out n) l e ok)
+pub returns-in_err-judge-clause-result : goal.returns-in_err-judge-clause-result
+returns-in_err-judge-clause-result c =
+    let r = c.in_err-judge.field-0.0 in
+    let e : Refusals.number_of c.from_residual.result ≡ Refusals.number r = search rules in
+    e ∙ bad (take_out c.args.number) c.args.buffer.now c.in_err-judge.ensures.refusal (refused r)
 
-      taken-left : {m : List ℕ} → at < length l → m ≡ replicate (length (mid_of at (at + 512 - at) l)) 0 → put_mid at (at + 512 - at) l m ≡ after (take_out n) l
-      unfolding effect empty
-      taken-left h e-m =
-          let k : at + 512 - at ≡ 512 = omega arith in
-          let i = inside h in
-          let d = length-drop at l in
-          let s = length-take-le 512 (drop at l) (omega arith) in
-          rw (done (take_out n) l (taken h), replace_at l valid (has n) empty e-at h, e-m, k, s, drop-drop 512 at l)
+pub returns-in_err-judge-clause-buffer : goal.returns-in_err-judge-clause-buffer
+returns-in_err-judge-clause-buffer c = bad_kept (take_out c.args.number) c.args.buffer.now c.in_err-judge.ensures.refusal (refused c.in_err-judge.field-0.0)
 
-      none : length l ≤ at → 14 ≡ refusal (take_out n) l
-      unfolding own
-      none h = rw (not_held l valid n e-at h) at (own_next (take_out n) l e ok)
+pub held_at-requires : goal.held_at-requires
+held_at-requires c =
+    let v = sym c.in_ok-judge.ensures.refusal in
+    rw c.in_ok-judge.ensures.whole v
 
-      none_left : length l ≤ at → l ≡ after (take_out n) l
-      none_left h = kept (take_out n) l (none h) (λ z. omega arith)
+pub slice_bounds-fill-end : goal.slice_bounds-fill-end
+slice_bounds-fill-end c =
+    let l = c.args.buffer.now in
+    let v = sym c.in_ok-judge.ensures.refusal in
+    let e = rw c.in_ok-judge.ensures.whole at c.in-Some.ensures in
+    omega (arith, inside l c.args.number v e c.in-Some.k refl)
 
-pub returns-then-fault-ne0 : goal.returns-then-fault-ne0
-returns-then-fault-ne0 c = record { result = search bad-refused; buffer = search bad-left }
+pub returns-in-Some-clause-result : goal.returns-in-Some-clause-result
+returns-in-Some-clause-result c =
+    let l = c.args.buffer.now in
+    let v = sym c.in_ok-judge.ensures.refusal in
+    taken l c.args.number v (rw c.in_ok-judge.ensures.whole at c.in-Some.ensures) c.in-Some.k refl
 
-pub slice_bounds-clear-end : goal.slice_bounds-clear-end
-slice_bounds-clear-end c =
-    let a = c.args in
-    omega (arith, inside a.buffer.now a.number c.judge-fault.ensures c.if-fault-ne0.false c.held_at-from.ensures c.if-from-buffer.true)
+pub returns-in-Some-clause-buffer : goal.returns-in-Some-clause-buffer
+returns-in-Some-clause-buffer c =
+    let l = c.args.buffer.now in
+    let v = sym c.in_ok-judge.ensures.refusal in
+    taken-left l c.args.number v (rw c.in_ok-judge.ensures.whole at c.in-Some.ensures) c.in-Some.k refl (c.fill.ensures.after (λ y e. e))
 
-pub returns-then-from-buffer : goal.returns-then-from-buffer
-returns-then-from-buffer c = record { result = search taken; buffer = search taken-left }
+pub returns-in-None-clause-result : goal.returns-in-None-clause-result
+returns-in-None-clause-result c =
+    let l = c.args.buffer.now in
+    let v = sym c.in_ok-judge.ensures.refusal in
+    none l c.args.number v (rw c.in_ok-judge.ensures.whole at c.in-None.ensures) refl
 
-pub returns-else-from-buffer : goal.returns-else-from-buffer
-returns-else-from-buffer c = record { result = search none; buffer = search none_left }
+pub returns-in-None-clause-buffer : goal.returns-in-None-clause-buffer
+returns-in-None-clause-buffer c =
+    let l = c.args.buffer.now in
+    let v = sym c.in_ok-judge.ensures.refusal in
+    kept (take_out c.args.number) l (none l c.args.number v (rw c.in_ok-judge.ensures.whole at c.in-None.ensures) refl) (λ z. omega arith)

@@ -1,5 +1,5 @@
 -- The held blocks before the place stand at the front, and the blocks from the place on are as they were.
-use Prim.Native.Nat.{ℕ, ◌-◌, ◌%◌, ◌≤◌}
+use Prim.Native.Nat.{ℕ, ◌*◌, ◌%◌, ◌≤◌}
 use mathlib.Core.Path.{◌≡◌}
 use mathlib.Core.List.{List}
 use lib.ListN.{length, take, drop}
@@ -15,8 +15,5 @@ pub record State (b₀ b : List ℕ) (w at : ℕ) : Type 0 where
   pub fronts : take w b ≡ flat (front (blocks (take at b₀)))
   pub behind : drop at b ≡ drop at b₀
 
-abbrev pub invariant-loop-from : goal.invariant-loop-from
-invariant-loop-from l = State l.initial.buffer l.buffer l.behind l.from
-
-abbrev pub decreases-loop-from : goal.decreases-loop-from
-decreases-loop-from l = length l.initial.buffer - l.from
+abbrev pub invariant-loop-k : goal.invariant-loop-k
+invariant-loop-k l = State l.initial.buffer l.buffer l.behind (512 * l.k)

@@ -1,11 +1,6 @@
 -- The words that are left decide as all do.
-use Prim.Native.Nat.{ℕ, suc, ◌-◌, ◌≤◌, ◌<◌}
-use mathlib.Core.Path.{◌≡◌, refl, sym, ap, ◌∙◌}
-use mathlib.Core.Bool.{true, false, ◌&&◌}
-use mathlib.Core.List.{List}
-use native.Mathlib.Omega.{arith}
-use borrow.Author.Tests.{eq-eqb, ne_eqb}
-use lib.Dec.{eqb}
+use Rattle.std.proofs.Common.{◌≡◌, ℕ, suc, ◌-◌, ◌≤◌, ◌<◌, true, false, ◌&&◌, List, eqb, sym, ap, ◌∙◌, arith, eq-eqb}
+use borrow.Author.Tests.{ne_eqb}
 use Rattle.words.specs.Words.{word}
 use Rattle.words.specs.Port.{same_words}
 use Rattle.words.proofs.same_words.Goals as goal
@@ -27,14 +22,12 @@ module _ (bytes : List ℕ) (words w left : ℕ) (inv : same_words bytes left w 
     next z = let b = eq-eqb v w z in sym (rw b at one) ∙ inv
 
 pub returns-then-word-w : goal.returns-then-word-w
-returns-then-word-w c = search other
+returns-then-word-w c =
+    other c.args.bytes.now c.args.words c.args.w c.loop-k.k c.loop-k.invariant (omega arith) c.word.ensures c.if-word-w.true
 
-pub loop-left-preserved : goal.loop-left-preserved
-loop-left-preserved c = (omega arith, search next)
+pub loop-k-preserved : goal.loop-k-preserved
+loop-k-preserved c =
+    next c.args.bytes.now c.args.words c.args.w c.loop-k.k c.loop-k.invariant (omega arith) c.word.ensures c.if-word-w.false
 
 pub returns : goal.returns
-returns c = search ended
-
-pub loop-left-init : goal.loop-left-init
-loop-left-init c =
-    (omega arith, refl)
+returns c = ended c.args.bytes.now c.args.words c.args.w c.loop-k.k c.loop-k.invariant (omega arith)

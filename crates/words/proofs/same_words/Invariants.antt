@@ -1,11 +1,7 @@
 -- The words that are left decide as all do.
-use Prim.Native.Nat.{◌≤◌}
-use mathlib.Core.Path.{◌≡◌}
+use Rattle.std.proofs.Common.{◌≡◌}
 use Rattle.words.specs.Port.{same_words}
 use Rattle.words.proofs.same_words.Given as goal
 
-abbrev pub invariant-loop-left : goal.invariant-loop-left
-invariant-loop-left l = (l.left ≤ l.words) × (same_words l.bytes l.left l.w ≡ same_words l.bytes l.words l.w)
-
-abbrev pub decreases-loop-left : goal.decreases-loop-left
-decreases-loop-left l = l.left
+abbrev pub invariant-loop-k : goal.invariant-loop-k
+invariant-loop-k l = same_words l.bytes l.k l.w ≡ same_words l.bytes l.words l.w

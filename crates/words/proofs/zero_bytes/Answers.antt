@@ -1,37 +1,16 @@
--- `zero_bytes` answers for the whole list as for the rest of it, while the bytes before are zero.
-use Prim.Native.Nat.{ℕ, ◌+◌, ◌≤◌, ◌<◌}
-use mathlib.Core.Path.{◌≡◌, refl}
-use mathlib.Core.Bool.{true, false}
-use mathlib.Core.List.{List}
-use native.Mathlib.Numerals.{add-one}
-use native.Mathlib.Omega.{arith}
-use borrow.Author.Tests.{ne_eqb}
-use lib.ListN.{length, get_or, drop, drop_of_length-le}
-use lib.Seq.{drop-cons}
+-- Every byte passes the test exactly if all are zero.
+use Rattle.std.proofs.Common.{◌≡◌, ℕ, List, [], ◌∷◌, ◌&&◌, eqb, refl, ap, ◌∙◌, rules, tests}
+use Rattle.std.specs.List.{list_all}
+use Rattle.std.proofs.lemmas.Iterator.{YieldsList-from_slice}
+use Rattle.std.proofs.lemmas.Iterator.Search.{all_from_yields_List}
 use Rattle.words.specs.Words.{zeros}
 use Rattle.words.proofs.zero_bytes.Goals as goal
 
-module _ (bytes : List ℕ) {i : ℕ} (e : zeros (drop i bytes) ≡ zeros bytes) where
-  other : i < length bytes → (get_or bytes i 0 ≡ 0 → ⊥) → false ≡ zeros bytes
-  unfolding zeros
-  other h ne = let e' = rw (drop-cons bytes i 0 h) at e in let t = ne_eqb (get_or bytes i 0) 0 ne in rw t at e'
-
-  zero-byte : i < length bytes → get_or bytes i 0 ≡ 0 → zeros (drop (i + 1) bytes) ≡ zeros bytes
-  unfolding zeros
-  zero-byte h z = let e' = rw (drop-cons bytes i 0 h, z) at e in rw (add-one i) e'
-
-  all : length bytes ≤ i → true ≡ zeros bytes
-  unfolding zeros
-  all h = rw (drop_of_length-le bytes h) at e
-
-pub loop-i-init : goal.loop-i-init
-loop-i-init c = (omega arith, refl)
-
-pub returns-then-bytes-i-ne0 : goal.returns-then-bytes-i-ne0
-returns-then-bytes-i-ne0 c = search other
-
-pub loop-i-preserved : goal.loop-i-preserved
-loop-i-preserved c = (omega arith, search zero-byte)
+all-zero : (bytes : List ℕ) → list_all (λ b. eqb b 0) bytes ≡ zeros bytes
+unfolding zeros
+all-zero [] = refl
+all-zero (b ∷ bytes) = ap (λ t. eqb b 0 && t) (all-zero bytes)
 
 pub returns : goal.returns
-returns c = search all
+returns c =
+    all_from_yields_List (λ b. eqb b 0) _ _ c.all.result c.all.ensures.ran (YieldsList-from_slice c.args.bytes.now cc) (λ x b q k. search (rules, tests)) ∙ all-zero c.args.bytes.now
