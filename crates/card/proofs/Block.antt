@@ -1,26 +1,25 @@
 -- What the solve call gives for a block that is searched, and for one that is not.
-use Prim.Native.Nat.{ℕ, zero, suc, ◌≤◌, ◌<◌, max}
+use Prim.Native.Nat.{ℕ, ◌≤◌, ◌<◌}
 use mathlib.Core.Path.{◌≡◌, refl, sym, ap, ◌∙◌}
 use mathlib.Core.Bool.{Bool, true, false, cond, ◌&&◌, true≢false}
-use mathlib.Core.List.{List, [], map}
+use mathlib.Core.List.{List, []}
 use native.Mathlib.Omega.{arith}
-use borrow.Author.Tests.{eqb-true, eqb-false, eq-eqb, ne_eqb, leb-true}
+use borrow.Author.Tests.{eqb-true, eqb-false, eq-eqb, leb-true}
 use lib.Dec.{eqb, leb}
 use lib.Ieee.{Float}
 use lib.ListN.{length}
 use Rattle.scalar.proofs.Order.{by_test}
-use Rattle.answers.specs.declared.Answer.{Answer}
-use Rattle.refusals.specs.Judge.{samples_fit, refusal_9}
+use Rattle.refusals.specs.Judge.{refusal_9}
 use Rattle.limits.specs.Limits.{refusal_10}
 use Rattle.limits.proofs.Filter.{unlimited}
-use Rattle.search_steps.specs.Steps.{State, busy, busy_in, start}
+use Rattle.search_steps.specs.Steps.{busy, busy_in, start}
 use Rattle.search_steps.specs.Run as Run
 use Rattle.search_steps.proofs.Run.{search_runs}
-use Rattle.full_list.specs.Full.{Full, by_family, of_numbers}
+use Rattle.full_list.specs.Full.{by_family}
 use Rattle.block.specs.Block as Block
 use Rattle.solve.specs.Solve.{refused, full, answers, solve}
 use Rattle.solve.specs.Demand3.{err, definition, of_pairs, Finite, SolveDemand3}
-use Rattle.solve.specs.declared.Solved.{Solved}
+use Rattle.solve.specs.InNumbers.{Solved}
 use Rattle.solve.proofs.Accepted.{Accepted, accepted, accepted_numbers}
 use Rattle.solve.proofs.Demand3.{demand}
 use Rattle.solve_block.specs.SolveBlock.{solve_block, block_answers}

@@ -1,11 +1,10 @@
 -- Any calls in any order: the machine gives what the card gives. And how soon a card is done.
-use Prim.Native.Nat.{ℕ, suc, ◌+◌, ◌*◌, ◌≤◌, ◌<◌}
-use mathlib.Core.Path.{◌≡◌, refl, sym, ap, ap₂, subst, ◌∙◌}
+use Prim.Native.Nat.{ℕ, ◌<◌}
+use mathlib.Core.Path.{◌≡◌, refl, sym, ap, ap₂, ◌∙◌}
 use mathlib.Core.Bool.{Bool, true, false, cond, true≢false}
 use mathlib.Core.List.{List, [], ◌∷◌}
 use native.Mathlib.Omega.{arith}
 use lib.Dec.{eqb, ltb}
-use lib.Ieee.{Float}
 use Rattle.scalar.proofs.Order.{by_test}
 use Rattle.answers.specs.Written.{room, written, flagged}
 use Rattle.answers.specs.declared.Answer.{Answer}
@@ -13,11 +12,11 @@ use Rattle.search_steps.specs.Steps.{State}
 use Rattle.search_steps.proofs.Run.{search_runs}
 use Rattle.block.specs.Block as Block
 use Rattle.solve.specs.Demand3.{err}
-use Rattle.solve.specs.declared.Solved.{Solved}
-use Rattle.card.specs.Card.{Card, fresh, started, abandoned, command, with_mask, with_flag, with_byte, write, steps_of}
+use Rattle.solve.specs.InNumbers.{Solved}
+use Rattle.card.specs.Card.{Card, started, abandoned, command, with_mask, with_flag, with_byte, write}
 use Rattle.card.specs.Calls.{Call, writes, reads, steps, Gave, given, after, run}
-use Rattle.card.specs.Machine.{Machine, searches, machine_step, UnderWay, Reached, Agrees, fresh_machine, machine_given, machine_after, machine_run, RunsAsCard, EndsInTime}
-use Rattle.card.proofs.Block.{E, so_many, one_step}
+use Rattle.card.specs.Machine.{Machine, searches, Reached, fresh_machine, machine_given, machine_after, machine_run, RunsAsCard, EndsInTime}
+use Rattle.card.proofs.Block.{so_many, one_step}
 use Rattle.card.proofs.Steps.{agrees}
 
 abbrev Kept : State → Card → Type 0

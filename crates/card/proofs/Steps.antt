@@ -1,23 +1,22 @@
 -- A step of the machine gives what a step of the card gives.
-use Prim.Native.Nat.{ℕ, zero, suc, ◌≤◌, ◌<◌}
+use Prim.Native.Nat.{ℕ, zero, suc, ◌<◌}
 use mathlib.Core.Path.{◌≡◌, refl, sym, ap, subst, ◌∙◌}
-use mathlib.Core.Bool.{Bool, true, false, cond, not, ◌&&◌, ◌||◌, true≢false}
-use mathlib.Core.List.{List, [], map}
+use mathlib.Core.Bool.{Bool, true, false, cond, not, ◌||◌, true≢false}
+use mathlib.Core.List.{List, []}
 use native.Mathlib.Omega.{arith}
-use borrow.Author.Tests.{eqb-true, eqb-false, eq-eqb, ne_eqb, le-leb, lt-leb, leb-true, leb-false}
+use borrow.Author.Tests.{eqb-true, eqb-false, le-leb, lt-leb, leb-true, leb-false}
 use lib.Dec.{eqb, leb}
 use lib.Ieee.{Float}
-use lib.ListN.{length}
 use Rattle.scalar.proofs.Order.{by_test}
-use Rattle.search_definition.specs.Found.{Entry, pair_of, pairs}
+use Rattle.search_definition.specs.Found.{pairs}
 use Rattle.search_steps.specs.Steps.{State, busy, start}
 use Rattle.search_steps.specs.Run as Run
 use Rattle.search_steps.proofs.Run.{search_runs}
 use Rattle.block.specs.Block as Block
-use Rattle.solve.specs.Demand3.{err, definition, of_pairs}
+use Rattle.solve.specs.Demand3.{err, definition}
 use Rattle.solve_block.specs.SolveBlock.{block_answers}
-use Rattle.card.specs.Card.{Card, whole, one_more, is_last, ended, steps_of, step, step_answers}
-use Rattle.card.specs.Machine.{Machine, Stepped, waits, ends, searches, one_evaluation, stands, found_answers, search_step, machine_step, UnderWay, Reached, Agrees}
+use Rattle.card.specs.Card.{Card, whole, one_more, is_last, ended, step, step_answers}
+use Rattle.card.specs.Machine.{Machine, Stepped, waits, ends, searches, one_evaluation, stands, search_step, machine_step, Reached, Agrees}
 use Rattle.card.proofs.Block.{E, gives, all_answers, so_many, one_step, some}
 
 -- the next step comes after so many

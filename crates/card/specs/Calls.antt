@@ -1,7 +1,7 @@
 -- Calls on a card in any order, and what they give.
 use Rattle.std.specs.Prelude.{ℕ, List, [], ◌∷◌, Float}
 use Rattle.answers.specs.Written.{room, written, flagged}
-use Rattle.solve.specs.declared.Solved.{Solved}
+use Rattle.solve.specs.InNumbers.{Solved}
 use Rattle.card.specs.Card.{Card, read, write, step, step_answers, zeros}
 
 -- a step is lent two lists

@@ -3,7 +3,7 @@
 -- The card knows the search through the solve call alone.
 use Rattle.std.specs.Prelude.{ℕ, suc, ◌+◌, ◌-◌, ◌*◌, ◌%◌, max, Bool, true, false, cond, not, ◌&&◌, List, [], eqb, leb, ltb, get_or, set, replicate}
 use Rattle.answers.specs.declared.Answer.{Answer}
-use Rattle.solve.specs.declared.Solved.{Solved}
+use Rattle.solve.specs.InNumbers.{Solved}
 use Rattle.solve_block.specs.SolveBlock.{solve_block, block_answers}
 
 pub record Card : Type 0 where

@@ -13,7 +13,7 @@ use Rattle.full_list.specs.Full.{tolerance}
 use Rattle.block.specs.Block as Block
 use Rattle.solve.specs.Solve.{refused}
 use Rattle.solve.specs.Demand3.{err}
-use Rattle.solve.specs.declared.Solved.{Solved}
+use Rattle.solve.specs.InNumbers.{Solved}
 use Rattle.solve_block.specs.SolveBlock.{block_answers}
 use Rattle.card.specs.Card.{Card, fresh, read, write, whole, zeros, ended, one_more, steps_of}
 use Rattle.card.specs.Card as Card

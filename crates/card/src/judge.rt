@@ -2,12 +2,14 @@
 ghost use Rattle.std.specs.Prelude.{◌≡◌, ◌≤◌, length};
 ghost use Rattle.card.specs.Machine.{searches};
 
+use refusals::number_of;
+
 // Whether a block is searched: it is not refused, and of family 6.
 pub fn searches(block: &[u8]) -> bool
     requires { 512 ≤ length block.now }
     ensures { result ≡ searches block.now }
 {
-    if block::refusal(block) != 0 {
+    if number_of(block::refusal(block)) != 0 {
         return false;
     }
     let family = block::family(block);
@@ -17,5 +19,5 @@ pub fn searches(block: &[u8]) -> bool
     let n = block::samples(block);
     let arm = block::arm(block);
     let pose = block::pose(block);
-    refusals::judge(family, n, &arm, &pose) == 0
+    number_of(refusals::judge(family, n, &arm, &pose)) == 0
 }

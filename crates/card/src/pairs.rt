@@ -3,11 +3,13 @@ ghost use Rattle.std.specs.Prelude.{◌≡◌, true, ◌≤◌, length};
 ghost use Rattle.search_error.specs.Error.{t64_count};
 ghost use Rattle.answers.specs.Written.{room, written, flagged};
 ghost use Rattle.refusals.specs.Judge.{refusal_9};
+ghost use Rattle.solve.specs.InNumbers.{in_numbers};
 ghost use Rattle.card.specs.Usable.{answered, usable, pair_answers};
 
-use full_list::FullList;
+use full_list::{Pairs, Task};
 use kinematics::Kinematics;
 use linear::{Matrix3, Vector3};
+use refusals::Family;
 use search_error::Fixed;
 use solve::Solved;
 
@@ -16,7 +18,7 @@ fn t64_count(r_06: Matrix3, p_0t: Vector3, kin: Kinematics, q1: f64) -> usize
     ensures { result ≡ t64_count kin r_06 p_0t q1 }
 {
     let fixed = Fixed::new(kin, r_06, p_0t);
-    let t64 = fixed.t64(fixed.given_q1(q1));
+    let t64 = fixed.t64(&fixed.given_q1(q1));
     t64.size()
 }
 
@@ -61,17 +63,18 @@ pub fn finish(
     flags: &mut [u8],
 ) -> Solved
     requires { (length arm.now ≡ 39) × (length pose.now ≡ 12) × (pairs ≤ 17600) × (pairs ≤ length qs.now) × (pairs ≤ length cs.now) × (usable arm.now pose.now qs.now cs.now pairs ≡ true) }
-    ensures result { result ≡ record { refusal = refusal_9 pairs (room angles.old flags.old); answers = pairs; evals = evals } }
+    ensures result { in_numbers result ≡ record { refusal = refusal_9 pairs (room angles.old flags.old); answers = pairs; evals = evals } }
     ensures angles { angles.new ≡ written (pair_answers arm.now pose.now qs.now cs.now pairs) angles.old flags.old }
     ensures flags { flags.new ≡ flagged (pair_answers arm.now pose.now qs.now cs.now pairs) angles.old flags.old }
 {
     let sixes = angles.len() / 6;
     let bytes = flags.len();
-    let list = FullList {
-        answers: pairs,
-        evals: evals,
-        searched: true,
+    let list = Pairs {
+        task: Task::new(Family::TwoParallel, 0, arm, pose),
+        angles: &qs[..pairs],
+        components: &cs[..pairs],
+        evals,
     };
-    let count = full_list::write_allowed(list, arm, pose, qs, cs, &qs[..0], angles, flags);
+    let count = list.write_allowed(&[], angles, flags);
     solve::given(count, evals, sixes, bytes)
 }

@@ -3,7 +3,8 @@ ghost use Rattle.std.specs.Prelude.{◌≡◌, true, not, ℕ, ◌+◌, ◌*◌,
 ghost use Rattle.card.specs.Card.{bit, read, command, write, ended};
 ghost use Rattle.card.specs.Registers.{registers_of, card_of, proper};
 
-// What a command does; the steps made, after it.
+// What a command does; the steps made, after it. The bytes 1 and 2 stay numbers: they are the document's register
+// values, and an enum would be converted to at once and back.
 fn command(registers: &mut [u8], value: u8, made: u64) -> u64
     requires { proper registers.old ≡ true }
     ensures result { result ≡ (command (card_of registers.old made) value).made }

@@ -1,18 +1,17 @@
 -- One component in steps is the definition's. Assumes nothing.
-use mathlib.Core.Path.{◌≡◌, refl, sym, ◌∙◌, ap}
+use mathlib.Core.Path.{◌≡◌, refl, ◌∙◌, ap}
 use mathlib.Core.Bool.{Bool, true, false, beq}
-use mathlib.Core.List.{List, []}
 use Prim.Native.Nat.{ℕ, zero, suc, ◌+◌}
 use lib.Ieee.{Float}
 use Rattle.float.specs.Number.{is_finite}
-use Rattle.search_definition.specs.Found.{grid, edge, Out, nothing, ◌then◌}
+use Rattle.search_definition.specs.Found.{grid, edge, Out, ◌then◌}
 use Rattle.search_definition.specs.Dip.{Point}
 use Rattle.search_definition.specs.Scan.{scan_samples}
-use Rattle.search_definition.specs.Search.{Gap, if_first_inside, edge_from, if_alike, edge_at, edges, runs, of_component}
+use Rattle.search_definition.specs.Search.{if_alike, edge_at, edges, runs, of_component}
 use Rattle.search_definition.proofs.Bounds.{then_assoc}
-use Rattle.search_steps.specs.Way.{Way, over, chain}
-use Rattle.search_steps.specs.ScanSteps.{Scan, scan_angle, scan_next, last_pair, scan_way}
-use Rattle.search_steps.specs.EdgeSteps.{Edge, edge_angle, edge_next, edge_way}
+use Rattle.search_steps.specs.Way.{Way, chain}
+use Rattle.search_steps.specs.ScanSteps.{last_pair, scan_way}
+use Rattle.search_steps.specs.EdgeSteps.{edge_way}
 use Rattle.search_steps.specs.ComponentSteps.{Component, in_run, in_edge, gap_at, if_alike_way, edges_way, runs_way, component_way, component_angle, component_next}
 use Rattle.search_steps.proofs.Ways.{ask, way_out, chain_out, chain_once}
 use Rattle.search_steps.proofs.ScanOut.{scan_out, scan_once, scan_way_out}

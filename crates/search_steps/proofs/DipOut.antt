@@ -1,18 +1,18 @@
 -- minimise_dip in steps is the definition's minimise_dip. Assumes nothing.
 use mathlib.Core.Path.{◌≡◌, refl, sym, ◌∙◌, ap}
 use mathlib.Core.Bool.{Bool, true, false}
-use mathlib.Core.List.{List, [], ◌∷◌}
+use mathlib.Core.List.{[], ◌∷◌}
 use Prim.Native.Nat.{ℕ, zero, suc}
 use lib.Ieee.{Float, lt}
 use Rattle.float.specs.Num.{nought}
 use Rattle.float.specs.Number.{is_finite}
-use Rattle.search_definition.specs.Found.{Part, before, after, Origin, Out, nothing, asks, ◌then◌, Asked, asking, Step, again, leave}
+use Rattle.search_definition.specs.Found.{Part, before, after, Origin, Out, ◌then◌, asking}
 use Rattle.search_definition.specs.Dip.{Valley, left_of, right_of, sign_of, best, if_below, probe, itself, depth, moved, dip_step, opened, lowest_from, lowest, Point, entry, if_tangent, refined, if_crossed, settled, minimise_dip}
 use Rattle.search_definition.proofs.Steps.{taken, run_suc, run_zero}
-use Rattle.search_steps.specs.Way.{Way, pause, over, chain}
-use Rattle.search_steps.specs.RefineSteps.{Refining, refine_angle, refine_next, refine_start}
+use Rattle.search_steps.specs.Way.{over}
+use Rattle.search_steps.specs.RefineSteps.{refine_angle, refine_next, refine_start}
 use Rattle.search_steps.specs.DipSteps.{depth_of, opened_of, moved_of, leftward, Dip, opening, opened_left, sinking, refining_before, refining_after, dip_angle, bottom, after_way, if_crossed_way, crossed_way, sink_way, sunk, turned_way, dip_way, dip_next}
-use Rattle.search_steps.proofs.Ways.{emits, ask, way_out, chain_out, chain_once, last_out, last_once}
+use Rattle.search_steps.proofs.Ways.{ask, way_out, chain_out, chain_once, last_out, last_once}
 use Rattle.search_steps.proofs.RefineOut.{refine_out, refine_start_out, refine_once}
 
 module _ (f : Float → Float) (sign : Float) where

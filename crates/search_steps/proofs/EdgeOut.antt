@@ -6,11 +6,10 @@ use Prim.Native.Nat.{ℕ, zero, suc}
 use lib.ListN.{length}
 use lib.Ieee.{Float, lt}
 use Rattle.float.specs.Number.{is_finite}
-use Rattle.search_definition.specs.Found.{Place, Origin, Out, asks, ◌then◌, Asked, asking}
+use Rattle.search_definition.specs.Found.{Place, Origin, Out, asks, ◌then◌, Asked}
 use Rattle.search_definition.specs.Dip.{Point}
-use Rattle.search_definition.specs.Search.{Gap, mid, if_inside, keep, reversed_if, halved, bisect, subsample, subsamples, edge_points, edge_row, row_at, scan_row, edge_from}
-use Rattle.search_steps.specs.Way.{Way, pause, over, chain}
-use Rattle.search_steps.specs.ScanSteps.{Scan, scan_angle, scan_next, last_pair, scan_way}
+use Rattle.search_definition.specs.Search.{Gap, mid, keep, reversed_if, halved, bisect, subsample, subsamples, edge_points, edge_row, row_at, scan_row, edge_from}
+use Rattle.search_steps.specs.ScanSteps.{last_pair, scan_way}
 use Rattle.search_steps.specs.EdgeSteps.{Edge, halving, taking, in_row, sub_angle, row_way, take_way, halve_way, edge_angle, edge_next, edge_way}
 use Rattle.search_steps.proofs.Ways.{ask, way_out, last_out, last_once}
 use Rattle.search_steps.proofs.ScanOut.{scan_out, scan_once, scan_way_out}

@@ -1,7 +1,7 @@
 -- The numbers of a state stay within their bounds, step by step. Assumes nothing.
-use mathlib.Core.Path.{◌≡◌, refl, sym, ◌∙◌, ap}
+use mathlib.Core.Path.{◌≡◌, refl}
 use mathlib.Core.Bool.{Bool, true, false, beq}
-use mathlib.Core.List.{List, [], ◌∷◌, ◌++◌, reverse}
+use mathlib.Core.List.{List, [], ◌∷◌, ◌++◌}
 use Prim.Native.Nat.{ℕ, zero, suc, ◌+◌, ◌-◌, ◌≤◌, ◌<◌}
 use native.Mathlib.Omega.{arith}
 use lib.ListN.{length, length-append, length-reverse}
@@ -11,13 +11,13 @@ use Rattle.search_definition.specs.Found.{Entry, Place, Origin, grid, edge, cros
 use Rattle.search_definition.specs.Dip.{Point}
 use Rattle.search_definition.specs.Scan.{crosses, dips, falls_to, falls_back}
 use Rattle.search_definition.specs.Search.{Gap, mid, if_inside, keep, reversed_if, row_at}
-use Rattle.search_steps.specs.Way.{Way, pause, over, adding, chain}
-use Rattle.search_steps.specs.RefineSteps.{Refining, refine_next, refine_start}
-use Rattle.search_steps.specs.DipSteps.{Dip, dip_way, dip_next}
+use Rattle.search_steps.specs.Way.{Way, pause, over, chain}
+use Rattle.search_steps.specs.RefineSteps.{refine_next, refine_start}
+use Rattle.search_steps.specs.DipSteps.{dip_way, dip_next}
 use Rattle.search_steps.specs.ScanSteps.{Scan, at_crossing, at_inner, at_last, at_first, of_inner, of_last, of_first, if_first, first_way, if_last, last_way, if_inner, inner_way, if_crosses_way, items_way, scan_next, last_pair, scan_way}
 use Rattle.search_steps.specs.EdgeSteps.{Edge, halving, taking, in_row, sub_angle, row_way, take_way, halve_way, edge_next, edge_way}
 use Rattle.search_steps.specs.ComponentSteps.{Component, in_run, in_edge, gap_at, if_alike_way, edges_way, runs_way, component_way, component_next}
-use Rattle.search_steps.specs.Steps.{Samples, more, taken_at, Phase, sampling, searching, ended, State, arrive, components_way, start, next_in, next}
+use Rattle.search_steps.specs.Steps.{Samples, taken_at, Phase, sampling, searching, ended, State, arrive, components_way, start, next_in, next}
 use Rattle.search_steps.specs.Kept.{Each, ScanKept, EdgeKept, ComponentKept, ComponentSmall, PhaseKept, Kept}
 use Rattle.search_steps.proofs.Small.{added, chained, free, each_both, component_way_small, component_next_small}
 

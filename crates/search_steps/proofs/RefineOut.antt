@@ -1,17 +1,16 @@
 -- refine_bracket in steps is the definition's refine_bracket. Assumes nothing.
 use mathlib.Core.Path.{◌≡◌, refl, sym, ◌∙◌, ap}
 use mathlib.Core.Bool.{Bool, true, false}
-use mathlib.Core.List.{List, [], ◌∷◌}
+use mathlib.Core.List.{[], ◌∷◌}
 use Prim.Native.Nat.{ℕ, zero, suc}
 use lib.Ieee.{Float}
 use Rattle.float.specs.Number.{is_finite}
-use Rattle.search_definition.specs.Found.{Entry, Origin, Out, ◌then◌, Asked, asking, Step, again, leave}
+use Rattle.search_definition.specs.Found.{Origin, Out, Asked, Step, again, leave}
 use Rattle.search_definition.specs.Refine.{Bracket, bracket, next, near, if_near, if_value, reached, if_next, refine_step, refine_from, refine_bracket}
 use Rattle.search_definition.specs.Dip.{Point, refined}
 use Rattle.search_definition.proofs.Steps.{taken, run_suc, run_zero}
-use Rattle.search_steps.specs.Way.{Way, pause, over}
-use Rattle.search_steps.specs.RefineSteps.{Refining, refining, refine_angle, one_pair, if_guess, refine_way, refine_turned, refine_next, refine_start}
-use Rattle.search_steps.proofs.Ways.{ask, way_out, paused}
+use Rattle.search_steps.specs.RefineSteps.{Refining, refine_angle, one_pair, if_guess, refine_way, refine_turned, refine_next, refine_start}
+use Rattle.search_steps.proofs.Ways.{ask, way_out}
 
 -- the pair of a refinement
 abbrev pub refine_pair : Origin → Asked Float → Out

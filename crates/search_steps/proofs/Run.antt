@@ -1,6 +1,6 @@
 -- The machine, stepped with any error, asks the definition's angles, ends after so many steps and not before, and has the definition's pairs. Assumes nothing.
 use mathlib.Core.Path.{◌≡◌, refl, sym, ◌∙◌, ap, ap₂}
-use mathlib.Core.Bool.{Bool, true, false, true≢false}
+use mathlib.Core.Bool.{Bool, true, false}
 use mathlib.Core.List.{List, [], ◌∷◌}
 use Prim.Native.Nat.{ℕ, zero, suc, ◌<◌}
 use native.Mathlib.Omega.{arith}
@@ -9,9 +9,8 @@ use lib.Ieee.{Float}
 use Rattle.search_definition.specs.Found.{Entry, Out}
 use Rattle.search_definition.specs.Search.{search_1d_bracketed}
 use Rattle.search_definition.proofs.Bounds.{search_held}
-use Rattle.search_steps.specs.Steps.{Phase, sampling, searching, ended, State, busy_in, busy, start, angle_of}
+use Rattle.search_steps.specs.Steps.{State, busy, start, angle_of}
 use Rattle.search_steps.specs.Run.{step, steps, asked_in, Runs}
-use Rattle.search_steps.proofs.Ways.{ask}
 use Rattle.search_steps.proofs.StepsOut.{state_out, state_once, state_ended, start_out}
 
 some_none : {x : Float} {l : List Float} → x ∷ l ≡ [] → ⊥

@@ -1,16 +1,15 @@
 -- scan_samples in steps is the definition's scan_samples. Assumes nothing.
-use mathlib.Core.Path.{◌≡◌, refl, sym, ◌∙◌, ap}
+use mathlib.Core.Path.{◌≡◌, refl, ◌∙◌, ap}
 use mathlib.Core.Bool.{Bool, true, false}
-use mathlib.Core.List.{List, [], ◌∷◌}
 use Prim.Native.Nat.{ℕ, zero, suc, ◌+◌}
 use lib.Ieee.{Float}
-use Rattle.search_definition.specs.Found.{Part, Place, crossing, inner, last, first, Origin, Out, nothing, ◌then◌}
-use Rattle.search_definition.specs.Dip.{Point, refined, minimise_dip}
+use Rattle.search_definition.specs.Found.{Place, crossing, Origin, Out, ◌then◌}
+use Rattle.search_definition.specs.Dip.{Point}
 use Rattle.search_definition.specs.Scan.{crosses, dips, falls_to, falls_back, if_dip, inner_dip, if_crosses, item, items, last_dip, first_dip, scan_samples}
 use Rattle.search_definition.proofs.Bounds.{then_assoc}
-use Rattle.search_steps.specs.Way.{Way, over, chain}
-use Rattle.search_steps.specs.RefineSteps.{Refining, refine_angle, refine_next, refine_start}
-use Rattle.search_steps.specs.DipSteps.{Dip, dip_angle, dip_way, dip_next}
+use Rattle.search_steps.specs.Way.{Way}
+use Rattle.search_steps.specs.RefineSteps.{refine_angle, refine_next, refine_start}
+use Rattle.search_steps.specs.DipSteps.{dip_way}
 use Rattle.search_steps.specs.ScanSteps.{Scan, at_crossing, at_inner, at_last, at_first, of_inner, of_last, of_first, if_first, first_way, if_last, last_way, if_inner, inner_way, if_crosses_way, items_way, scan_angle, scan_next, last_pair, scan_way}
 use Rattle.search_steps.proofs.Ways.{ask, way_out, chain_out, chain_once, last_out, last_once}
 use Rattle.search_steps.proofs.RefineOut.{refine_out, refine_start_out, refine_once}

@@ -1,18 +1,17 @@
 -- The whole search in steps: what is left in a state, and one step of it. Assumes nothing.
 use mathlib.Core.Path.{◌≡◌, refl, sym, ◌∙◌, ap, ap₂}
-use mathlib.Core.Bool.{Bool, true, false, true≢false}
+use mathlib.Core.Bool.{true, false, true≢false}
 use mathlib.Core.List.{List, [], ◌∷◌, ◌++◌, map, append_assoc, append-nil}
 use Prim.Native.Nat.{ℕ, zero, suc, ◌+◌, ◌≤◌, ◌<◌}
 use native.Mathlib.Nat.{zero-add, add-zero}
 use native.Mathlib.Omega.{arith}
-use lib.ListN.{length, get_or}
+use lib.ListN.{get_or}
 use lib.Ieee.{Float, nan}
 use Rattle.search_definition.specs.Found.{Entry, Out, nothing, asks, ◌then◌}
-use Rattle.search_definition.specs.Dip.{Point}
 use Rattle.search_definition.specs.Search.{of_component, angle, angles, sample, search_1d_bracketed}
 use Rattle.search_definition.proofs.Bounds.{then_assoc, then_nothing}
-use Rattle.search_steps.specs.Way.{Way, pause, over, chain}
-use Rattle.search_steps.specs.ComponentSteps.{Component, component_way, component_angle, component_next}
+use Rattle.search_steps.specs.Way.{Way, pause, over}
+use Rattle.search_steps.specs.ComponentSteps.{component_way, component_angle}
 use Rattle.search_steps.specs.Steps.{Samples, no_samples, more, row_of, taken_at, Phase, sampling, searching, ended, State, busy_in, busy, arrive, components_way, start, angle_in, angle_of, next_in, next}
 use Rattle.search_steps.specs.Run.{step}
 use Rattle.search_steps.proofs.Ways.{emits, ask, way_out, chain_out, chain_once}

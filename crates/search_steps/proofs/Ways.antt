@@ -1,6 +1,6 @@
 -- What a way gives, as a part of the search's definition: one part within another, one evaluation, then the rest. Assumes nothing.
 use mathlib.Core.Path.{◌≡◌, refl, sym, ◌∙◌, ap}
-use mathlib.Core.List.{List, [], ◌∷◌, ◌++◌, append_assoc, append-nil}
+use mathlib.Core.List.{List, [], ◌∷◌}
 use lib.Ieee.{Float}
 use Rattle.search_definition.specs.Found.{Entry, Out, nothing, asks, ◌then◌}
 use Rattle.search_definition.proofs.Bounds.{then_assoc, then_nothing}

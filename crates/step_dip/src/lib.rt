@@ -1,4 +1,4 @@
-// minimise_dip in steps, and the two lists that pairs go into.
+// minimise_dip in steps.
 #![tactic(auto)]
 
 pub mod dip;

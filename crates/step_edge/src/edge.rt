@@ -1,59 +1,46 @@
-// An edge of a branch between two grid samples, beside the one inside the branch, p.
-ghost use Rattle.std.specs.Prelude.{◌≡◌, List, [], ℕ, ◌≤◌, ◌<◌, ◌+◌, length, Float};
+// An edge of a branch between two grid samples, beside the one inside the branch, p. Its pairs are of
+// component i.
+ghost use Rattle.std.specs.Prelude.{◌≡◌, List, ℕ, ◌≤◌, ◌<◌, ◌-◌, length, map, Float, Some};
 ghost use Rattle.float.specs.Num.{◌⊕◌, ◌⊖◌, ◌⊗◌};
 ghost use Rattle.float.specs.Number.{is_finite};
 ghost use Rattle.search_definition.specs.Found.{Place, Origin, component};
 ghost use Rattle.search_definition.specs.Dip as DipDefinition;
 ghost use Rattle.search_definition.specs.Search as Search;
-ghost use Rattle.search_steps.specs.Way.{over};
 ghost use Rattle.search_steps.specs.Kept.{EdgeKept};
 ghost use Rattle.search_steps.specs.EdgeSteps as Steps;
-ghost use Rattle.search_pairs.specs.State.{row, firsts};
-ghost use Rattle.step_pairs.specs.Landed.{lists, landed, followed};
-ghost use Rattle.step_dip.specs.State.{point_of};
-ghost use Rattle.step_scan.specs.State.{scan_landed};
-ghost use Rattle.step_edge.specs.State.{behind, gap_of, edge_of, edge_landed, Fits};
-ghost use Rattle.step_edge.specs.declared.edge.Edge.TheVariants.{Taking, InRow};
+ghost use Rattle.step_refine.specs.State.{point_of};
+ghost use Rattle.step_pairs.specs.Landed.{landing, landed, came};
+ghost use Rattle.step_pairs.specs.declared.Found as DeclaredFound;
+ghost use Rattle.step_edge.specs.State.{gap_of, edge_of};
 
-use crate::row::{begin_row, close_row, last_pair, order_row};
+use crate::row::{close_row, whole};
+use arrayvec::ArrayVec;
 use float::is_finite;
-use search_edge::edge::{keep_finite, share};
-use step_dip::dip::Point;
-use step_scan::row::number;
-use step_scan::scan::{Scan, ScanNow, ScanStep, scan_angle, scan_next, scan_way};
+use search_edge::edge::share;
+use step_pairs::Found;
+use step_refine::Point;
+use step_scan::row::Row;
+use step_scan::scan::{Scan, scan_angle, scan_next, scan_way};
 
-// A point of the branch, with its value, and an angle where the branch is not.
+// A point of the branch, and an angle where the branch is not.
 #[derive(Clone, Copy)]
 pub struct Gap {
-    pub x: f64,
-    pub y: f64,
-    pub out: f64,
+    pub inside: Point,
+    pub outside: f64,
 }
 
-// Of the row: how many samples are kept behind the branch's end, or how many there are in all.
+// Halves the gap, so many times more; takes a sample of this number from the branch's end on; or scans the row.
 #[derive(Clone, Copy)]
 pub enum Edge {
     Halving(usize, Gap),
-    Taking(usize, u64, usize),
-    InRow(usize, Scan),
-}
-
-#[derive(Clone, Copy)]
-pub enum EdgeNow {
-    Pause(Edge),
-    Over,
-}
-
-#[derive(Clone, Copy)]
-pub struct EdgeStep {
-    pub now: EdgeNow,
-    pub pairs: usize,
+    Taking(Point, u64),
+    InRow(Scan),
 }
 
 pub fn mid(g: Gap) -> f64
     ensures { result ≡ Search.mid (gap_of g) }
 {
-    0.5 * (g.x + g.out)
+    0.5 * (g.inside.x + g.outside)
 }
 
 // With the value y at the angle x within the gap.
@@ -61,13 +48,12 @@ pub fn halved(g: Gap, x: f64, y: f64) -> Gap
     ensures { gap_of result ≡ Search.if_inside (is_finite y) x y (gap_of g) }
 {
     if is_finite(y) {
-        return Gap { x, y, out: g.out };
+        return Gap {
+            inside: Point { x, y },
+            ..g
+        };
     }
-    Gap {
-        x: g.x,
-        y: g.y,
-        out: x,
-    }
+    Gap { outside: x, ..g }
 }
 
 // The angle of sample number j from the branch's end at lo towards the grid's sample at x.
@@ -78,190 +64,103 @@ pub fn sub_angle(lo: f64, x: f64, j: u64) -> f64
     lo + d * share(j)
 }
 
-// A scan's step as the edge's.
-pub fn row_end(m: usize, s: ScanStep) -> EdgeStep
-    ensures { (u v q : List Float) (k : List ℕ) → edge_landed u v q k result ≡ followed (Steps.in_row (firsts (row u v) m)) (over []) (scan_landed q k s) }
-{
-    let pairs = s.pairs;
-    let now = s.now;
-    match now {
-        ScanNow::Pause(z) => {
-            EdgeStep {
-                now: EdgeNow::Pause(Edge::InRow(m, z)),
-                pairs,
-            }
-        }
-        ScanNow::Over => {
-            EdgeStep {
-                now: EdgeNow::Over,
-                pairs,
-            }
-        }
-    }
-}
-
-// The row of m points is scanned.
-pub fn row_way(
+// The row is scanned.
+pub fn row_way<const N: usize>(
     i: u8,
-    rx: &[f64],
-    ry: &[f64],
-    m: usize,
-    qs: &mut [f64],
-    cs: &mut [u8],
-    pairs: usize,
-) -> EdgeStep
-    requires { (m ≤ 9) × (m ≤ length rx.now) × (m ≤ length ry.now) }
-    ensures { (o : Place → Origin) → ((q : Place) → component (o q) ≡ i) → (p : DipDefinition.Point) → edge_landed rx.now ry.now qs.new cs.new result ≡ landed (lists qs.old cs.old pairs) (Steps.row_way o p (firsts (row rx.now ry.now) m)) }
+    row: &ArrayVec<Point, 9>,
+    found: &mut ArrayVec<Found, N>,
+) -> Option<Edge>
+    ensures { (o : Place → Origin) → ((q : Place) → component (o q) ≡ i) → (p : DipDefinition.Point) → came (edge_of row.now.items) found.new.items result ≡ landed N found.old.items (Steps.row_way o p (map point_of row.now.items)) }
 {
-    let s = scan_way(i, &rx[..m], &ry[..m], 0, m, qs, cs, pairs);
-    row_end(m, s)
+    scan_way(i, Row::Edge(row.as_slice()), whole(row), found).map(|z| Edge::InRow(z))
 }
 
-// c samples are still to be taken, from number j on; m are kept.
-pub fn take_way(
+// The samples from number j to 7 are still to be taken behind the branch's end e.
+pub fn take_way<const N: usize>(
     i: u8,
     p: Point,
-    c: usize,
+    e: Point,
     j: u64,
-    m: usize,
-    rx: &mut [f64],
-    ry: &mut [f64],
-    qs: &mut [f64],
-    cs: &mut [u8],
-    pairs: usize,
-) -> EdgeStep
-    requires { (m ≤ 7) × (9 ≤ length rx.old) × (9 ≤ length ry.old) }
-    ensures { (o : Place → Origin) → ((q : Place) → component (o q) ≡ i) → edge_landed rx.new ry.new qs.new cs.new result ≡ landed (lists qs.old cs.old pairs) (Steps.take_way o (point_of p) (row rx.old ry.old 0) c j (firsts (behind (row rx.old ry.old)) m)) }
+    row: &mut ArrayVec<Point, 9>,
+    found: &mut ArrayVec<Found, N>,
+) -> Option<Edge>
+    requires { length row.old.items ≤ 7 }
+    ensures { (o : Place → Origin) → ((q : Place) → component (o q) ≡ i) → came (edge_of row.new.items) found.new.items result ≡ landed N found.old.items (Steps.take_way o (point_of p) (point_of e) (8 - j) j (map point_of row.old.items)) }
 {
-    if c == 0 {
-        let lo = number(rx, 0);
-        close_row(p, rx, ry, m);
-        order_row(lo, p.x, rx, ry, m + 2);
-        return row_way(i, rx, ry, m + 2, qs, cs, pairs);
+    if j < 8 {
+        return Some(Edge::Taking(e, j));
     }
-    EdgeStep {
-        now: EdgeNow::Pause(Edge::Taking(c - 1, j, m)),
-        pairs,
-    }
+    close_row(e, p, row);
+    row_way(i, row, found)
 }
 
 // k halvings are still to be made.
-pub fn halve_way(k: usize, g: Gap, rx: &mut [f64], ry: &mut [f64], pairs: usize) -> EdgeStep
-    requires { (0 < length rx.old) × (0 < length ry.old) }
-    ensures { (o : Place → Origin) (p : DipDefinition.Point) (q : List Float) (c : List ℕ) → edge_landed rx.new ry.new q c result ≡ landed (lists q c pairs) (Steps.halve_way o p k (gap_of g)) }
+pub fn halve_way(k: usize, g: Gap, row: &mut ArrayVec<Point, 9>) -> Edge
+    ensures { (o : Place → Origin) (p : DipDefinition.Point) (room : ℕ) (h : List DeclaredFound.Found) → landing h (Some (edge_of row.new.items result)) ≡ landed room h (Steps.halve_way o p k (gap_of g)) }
 {
     if k == 0 {
-        begin_row(g.x, g.y, rx, ry);
-        return EdgeStep {
-            now: EdgeNow::Pause(Edge::Taking(6, 1, 0)),
-            pairs,
-        };
+        row.clear();
+        return Edge::Taking(g.inside, 1);
     }
-    EdgeStep {
-        now: EdgeNow::Pause(Edge::Halving(k - 1, g)),
-        pairs,
-    }
+    Edge::Halving(k - 1, g)
 }
 
 // An edge asks at once: 16 halvings are to be made.
-pub fn edge_way(g: Gap, pairs: usize) -> EdgeStep
-    ensures { (o : Place → Origin) (u v q : List Float) (c : List ℕ) → edge_landed u v q c result ≡ landed (lists q c pairs) (Steps.edge_way o (gap_of g)) }
+pub fn edge_way(g: Gap) -> Edge
+    ensures { (o : Place → Origin) (r : List _) (room : ℕ) (h : List DeclaredFound.Found) → landing h (Some (edge_of r result)) ≡ landed room h (Steps.edge_way o (gap_of g)) }
 {
-    EdgeStep {
-        now: EdgeNow::Pause(Edge::Halving(15, g)),
-        pairs,
-    }
+    Edge::Halving(15, g)
 }
 
-// The angle that a scan of the row asks.
-pub fn row_angle(rx: &[f64], ry: &[f64], m: usize, z: Scan) -> f64
-    requires { Fits m z × (m ≤ length rx.now) × (m ≤ length ry.now) }
-    ensures { (o : Place → Origin) (p : DipDefinition.Point) → result ≡ Steps.edge_angle o p (edge_of rx.now ry.now (InRow m z)) }
-{
-    let t = last_pair(0, m);
-    scan_angle(&rx[..m], &ry[..m], 0, t, z)
-}
-
-// What a scan of the row comes to.
-pub fn row_next(
-    i: u8,
-    rx: &[f64],
-    ry: &[f64],
-    m: usize,
-    z: Scan,
-    y: f64,
-    qs: &mut [f64],
-    cs: &mut [u8],
-    pairs: usize,
-) -> EdgeStep
-    requires { Fits m z × (m ≤ length rx.now) × (m ≤ length ry.now) }
-    ensures { (o : Place → Origin) → ((q : Place) → component (o q) ≡ i) → (p : DipDefinition.Point) → edge_landed rx.now ry.now qs.new cs.new result ≡ landed (lists qs.old cs.old pairs) (Steps.edge_next o p (edge_of rx.now ry.now (InRow m z)) y) }
-{
-    let t = last_pair(0, m);
-    let s = scan_next(i, &rx[..m], &ry[..m], 0, t, z, y, qs, cs, pairs);
-    row_end(m, s)
-}
-
-// The sample number j has the value y: it is kept where that is finite.
-pub fn take_next(
+// The sample number j behind the branch's end e has the value y: it is kept where that is finite.
+pub fn take_next<const N: usize>(
     i: u8,
     p: Point,
-    c: usize,
+    e: Point,
     j: u64,
-    m: usize,
     y: f64,
-    rx: &mut [f64],
-    ry: &mut [f64],
-    qs: &mut [f64],
-    cs: &mut [u8],
-    pairs: usize,
-) -> EdgeStep
-    requires { (m < j) × (j ≤ 7) × (9 ≤ length rx.old) × (9 ≤ length ry.old) }
-    ensures { (o : Place → Origin) → ((q : Place) → component (o q) ≡ i) → edge_landed rx.new ry.new qs.new cs.new result ≡ landed (lists qs.old cs.old pairs) (Steps.edge_next o (point_of p) (edge_of rx.old ry.old (Taking c j m)) y) }
+    row: &mut ArrayVec<Point, 9>,
+    found: &mut ArrayVec<Found, N>,
+) -> Option<Edge>
+    requires { (length row.old.items < j) × (j ≤ 7) }
+    ensures { (o : Place → Origin) → ((q : Place) → component (o q) ≡ i) → came (edge_of row.new.items) found.new.items result ≡ landed N found.old.items (Steps.edge_next o (point_of p) (Steps.taking (point_of e) (7 - j) j (map point_of row.old.items)) y) }
 {
-    let lo = number(rx, 0);
-    let x = sub_angle(lo, p.x, j);
-    let n = keep_finite(x, y, rx, ry, m + 1);
-    take_way(i, p, c, j + 1, n - 1, rx, ry, qs, cs, pairs)
+    if is_finite(y) {
+        let x = sub_angle(e.x, p.x, j);
+        row.push(Point { x, y });
+    }
+    take_way(i, p, e, j + 1, row, found)
 }
 
 // The angle that an edge asks.
-pub fn edge_angle(p: Point, z: Edge, rx: &[f64], ry: &[f64]) -> f64
-    requires { EdgeKept (edge_of rx.now ry.now z) × (9 ≤ length rx.now) × (9 ≤ length ry.now) }
-    ensures { (o : Place → Origin) → result ≡ Steps.edge_angle o (point_of p) (edge_of rx.now ry.now z) }
+pub fn edge_angle(p: Point, z: Edge, row: &ArrayVec<Point, 9>) -> f64
+    ensures { (o : Place → Origin) → result ≡ Steps.edge_angle o (point_of p) (edge_of row.now.items z) }
 {
     match z {
         Edge::Halving(_, g) => mid(g),
-        Edge::Taking(_, j, _) => {
-            let lo = number(rx, 0);
-            sub_angle(lo, p.x, j)
-        }
-        Edge::InRow(m, s) => row_angle(rx, ry, m, s),
+        Edge::Taking(e, j) => sub_angle(e.x, p.x, j),
+        Edge::InRow(s) => scan_angle(Row::Edge(row.as_slice()), whole(row), s),
     }
 }
 
 // What an edge comes to with the value y at the angle that it asks.
-pub fn edge_next(
+pub fn edge_next<const N: usize>(
     i: u8,
     p: Point,
     z: Edge,
     y: f64,
-    rx: &mut [f64],
-    ry: &mut [f64],
-    qs: &mut [f64],
-    cs: &mut [u8],
-    pairs: usize,
-) -> EdgeStep
-    requires { EdgeKept (edge_of rx.old ry.old z) × (9 ≤ length rx.old) × (9 ≤ length ry.old) }
-    ensures { (o : Place → Origin) → ((q : Place) → component (o q) ≡ i) → edge_landed rx.new ry.new qs.new cs.new result ≡ landed (lists qs.old cs.old pairs) (Steps.edge_next o (point_of p) (edge_of rx.old ry.old z) y) }
+    row: &mut ArrayVec<Point, 9>,
+    found: &mut ArrayVec<Found, N>,
+) -> Option<Edge>
+    requires { EdgeKept (edge_of row.old.items z) }
+    ensures { (o : Place → Origin) → ((q : Place) → component (o q) ≡ i) → came (edge_of row.new.items) found.new.items result ≡ landed N found.old.items (Steps.edge_next o (point_of p) (edge_of row.old.items z) y) }
 {
     match z {
-        Edge::Halving(k, g) => {
-            let x = mid(g);
-            let h = halved(g, x, y);
-            halve_way(k, h, rx, ry, pairs)
+        Edge::Halving(k, g) => Some(halve_way(k, halved(g, mid(g), y), row)),
+        Edge::Taking(e, j) => take_next(i, p, e, j, y, row, found),
+        Edge::InRow(s) => {
+            let run = whole(row);
+            scan_next(i, Row::Edge(row.as_slice()), run, s, y, found).map(|z| Edge::InRow(z))
         }
-        Edge::Taking(c, j, m) => take_next(i, p, c, j, m, y, rx, ry, qs, cs, pairs),
-        Edge::InRow(m, s) => row_next(i, rx, ry, m, s, y, qs, cs, pairs),
     }
 }

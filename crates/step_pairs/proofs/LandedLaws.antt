@@ -1,97 +1,106 @@
--- What a way does to the lent lists: one part within another, and a pair more. Assumes nothing.
-use mathlib.Core.Path.{◌≡◌, refl, sym, ◌∙◌, ap}
-use mathlib.Core.Bool.{Bool, true, false, ◌&&◌, cond, true≢false}
-use mathlib.Core.List.{List, [], ◌∷◌, ◌++◌}
-use Prim.Native.Nat.{ℕ, ◌+◌, ◌≤◌, ◌<◌}
-use lib.Dec.{ltb}
-use borrow.Author.Tests.{lt-ltb, le-ltb}
-use lib.ListN.{length, set}
-use lib.Ieee.{Float}
+-- What a way does to the list of pairs: one part within another, and a pair more.
+use Rattle.std.proofs.Common.{◌≡◌, refl, sym, ◌∙◌, ap, ℕ, ◌<◌, ◌≤◌, Bool, true, cond, List, [], ◌∷◌, ◌++◌, length, Float}
+use Rattle.std.specs.Prelude.{Option, Some, None}
+use Rattle.std.specs.Option.{option_map}
+use Rattle.std.proofs.lemmas.Bool.{lt-ltb, le-ltb}
 use Rattle.search_definition.specs.Found.{Entry, Origin, component}
 use Rattle.search_steps.specs.Way.{Way, pause, over, adding, chain}
-use Rattle.step_pairs.specs.Landed.{Lists, lists, entry_of, put_one, putting, Now, asking, none, Landed, landing, landed, followed, same, waits}
+use Rattle.step_pairs.specs.declared.Found.{Found}
+use Rattle.step_pairs.specs.Landed.{entry_of, put_one, putting, Landed, landing, landed, came}
 
-pub putting_both : (h : Lists) (a b : List Entry) → putting h (a ++ b) ≡ putting (putting h a) b
-unfolding putting
-putting_both h [] b = refl
-putting_both h (e ∷ a) b = putting_both (put_one h e) a b
+module _ (room : ℕ) where
+  pub putting_both : (h : List Found) (a b : List Entry) → putting room h (a ++ b) ≡ putting room (putting room h a) b
+  unfolding putting
+  putting_both h [] b = refl
+  putting_both h (e ∷ a) b = putting_both (put_one room h e) a b
 
-pub adding_landed : {S : Type 0} (h : Lists) (e : List Entry) (w : Way S) → landed h (adding e w) ≡ landed (putting h e) w
-unfolding adding landed
-adding_landed h e (pause d s) = ap (λ (z : Lists). landing z (asking s)) (putting_both h e d)
-adding_landed h e (over d) = ap (λ (z : Lists). landing z none) (putting_both h e d)
+  pub adding_landed : {S : Type 0} (h : List Found) (e : List Entry) (w : Way S) → landed room h (adding e w) ≡ landed room (putting room h e) w
+  unfolding adding landed
+  adding_landed h e (pause d s) = ap (λ (z : List Found). landing z (Some s)) (putting_both h e d)
+  adding_landed h e (over d) = ap (λ (z : List Found). landing z None) (putting_both h e d)
 
-pub chain_landed : {S T : Type 0} (up : S → T) (h : Lists) (a : Way S) (w : Way T) → landed h (chain up a w) ≡ followed up w (landed h a)
-unfolding chain landed followed
-chain_landed up h (pause e s) w = refl
-chain_landed up h (over e) w = adding_landed h e w
+  -- where a part is over, the larger one goes on as w
+  abbrev followed : {S U : Type 0} → (S → U) → Way U → Landed S → Landed U
+  followed up w l = elim l.now_at [ Some s ↦ landing l.list (Some (up s)) | None ↦ landed room l.list w ]
 
--- ---- from a part to the larger one in two steps: the part's state renamed, and then how the larger one goes on
-pub again : {S T : Type 0} (up : S → T) (w : Way T) (l : Landed S) → followed up w l ≡ followed same w (followed up (over []) l)
-unfolding followed landed putting
-again up w l = go l.in_lists l.now_at
-  where
-    go : (h : Lists) (n : Now _) → followed up w (landing h n) ≡ followed same w (followed up (over []) (landing h n))
-    go h (asking z) = refl
-    go h none = refl
+  chain_landed : {S U : Type 0} (up : S → U) (h : List Found) (w : Way U) (a : Way S) → followed up w (landed room h a) ≡ landed room h (chain up a w)
+  unfolding chain landed
+  chain_landed up h w (pause e s) = refl
+  chain_landed up h w (over e) = sym (adding_landed h e w)
 
-pub joined : {S T : Type 0} (up : S → T) (h : Lists) (a : Way S) (w : Way T) → landed h (chain up a w) ≡ followed same w (landed h (chain up a (over [])))
-joined up h a w = chain_landed up h a w ∙ again up w (landed h a) ∙ sym (ap (followed same w) (chain_landed up h a (over [])))
+  pub chain_of_nothing : {S U : Type 0} (up : S → U) (h : List Found) (w : Way U) → landed room h w ≡ landed room h (chain up (over []) w)
+  unfolding chain putting
+  chain_of_nothing up h w = sym (adding_landed h [] w)
 
--- where the part's code has come to, as the larger part's
-module _ {S T : Type 0} (up : S → T) (h : Lists) {n : Now S} where
-  pub renamed : (s : S) → n ≡ asking s → landing h (asking (up s)) ≡ followed up (over []) (landing h n)
-  unfolding followed
-  renamed s e = sym (ap (λ (z : Now S). followed up (over []) (landing h z)) e)
+  -- two ways that come to the same from any list
+  pub chain_same : {S U : Type 0} (up : S → U) (h : List Found) (a : Way S) (v w : Way U) → ((k : List Found) → landed room k v ≡ landed room k w) → landed room h (chain up a v) ≡ landed room h (chain up a w)
+  unfolding chain landed
+  chain_same up h (pause e s) v w q = refl
+  chain_same up h (over e) v w q = adding_landed h e v ∙ q (putting room h e) ∙ sym (adding_landed h e w)
 
-  pub renamed_none : n ≡ none → landing h none ≡ followed up (over []) (landing h n)
-  unfolding followed landed putting
-  renamed_none e = sym (ap (λ (z : Now S). followed up (over []) (landing h z)) e)
+  -- a part within a larger one, by what the part's code left and returned: it asks, or the larger part goes on as w
+  module _ {T S U : Type 0} (f : T → S) (up : S → U) (h : List Found) (a : Way S) (w : Way U) where
+    pub part_asks : {k : List Found} {r : Option T} (t : T) → came f k r ≡ landed room h a → r ≡ Some t → landing k (Some (up (f t))) ≡ landed room h (chain up a w)
+    part_asks {k} t e d =
+        ap (λ (z : Option T). followed up w (came f k z)) (sym d) ∙ ap (followed up w) e ∙ chain_landed up h w a
 
--- a part's whole step: a is its way, b where its code has come to, m that as the larger part's, k where it goes on to
-pub part_steps : {S T : Type 0} (up : S → T) (h : Lists) (a : Way S) (w : Way T) {b : Landed S} {m k : Landed T} → b ≡ landed h a → m ≡ followed up (over []) b → k ≡ followed same w m → k ≡ landed h (chain up a w)
-part_steps up h a w {b} i j r = r ∙ ap (followed same w) j ∙ sym (again up w b) ∙ ap (followed up w) i ∙ sym (chain_landed up h a w)
+    pub part_over : (k : List Found) {r : Option T} {l : Landed U} → came f k r ≡ landed room h a → r ≡ None → l ≡ landed room k w → l ≡ landed room h (chain up a w)
+    part_over k e d b =
+        b
+        ∙ ap (λ (z : Option T). followed up w (came f k z)) (sym d)
+        ∙ ap (followed up w) e
+        ∙ chain_landed up h w a
 
--- the same where the part is the larger one's last
-pub part_ends : {S T : Type 0} (up : S → T) (h : Lists) (a : Way S) {b : Landed S} {m : Landed T} → b ≡ landed h a → m ≡ followed up (over []) b → m ≡ landed h (chain up a (over []))
-part_ends up h a i j = j ∙ ap (followed up (over [])) i ∙ sym (chain_landed up h a (over []))
+  -- a is a way without what follows it, and b with w behind it
+  abbrev pub Joined : {S : Type 0} → List Found → Way S → Way S → Way S → Type 0
+  Joined h a w b = landed room h b ≡ followed (λ s. s) w (landed room h a)
 
--- a step that pauses stays where it is, and from one that is over the larger part goes on
-module _ {S T : Type 0} (up : S → T) (w : Way T) (h : Lists) where
-  pub stays : (n : Now S) → waits n ≡ true → followed up (over []) (landing h n) ≡ followed up w (landing h n)
-  unfolding followed
-  stays (asking s) e = refl
-  stays none e = absurd (true≢false (sym e))
+  pub joined : {S U : Type 0} (up : S → U) (h : List Found) (a : Way S) (w : Way U) → Joined h (chain up a (over [])) w (chain up a w)
+  unfolding chain landed putting
+  joined up h (pause e s) w = refl
+  joined up h (over e) w = adding_landed h e w ∙ sym (ap (followed (λ s. s) w) (adding_landed h e (over [])))
 
-  pub goes_on : (n : Now S) → waits n ≡ false → followed up w (landing h n) ≡ landed h w
-  unfolding followed
-  goes_on (asking s) e = absurd (true≢false e)
-  goes_on none e = refl
+  pub joined_nothing : {S : Type 0} (h : List Found) (w : Way S) → Joined h (over []) w w
+  unfolding landed putting
+  joined_nothing h w = refl
 
-pub stays_same : {T : Type 0} (w : Way T) (h : Lists) (n : Now T) → waits n ≡ true → followed same w (landing h n) ≡ landing h n
-unfolding followed
-stays_same w h (asking s) e = refl
-stays_same w h none e = absurd (true≢false (sym e))
+  module _ {T S : Type 0} (f : T → S) (h : List Found) (a w b : Way S) (j : Joined h a w b) where
+    pub then_asks : (k : List Found) {r : Option T} (t : T) → came f k r ≡ landed room h a → r ≡ Some t → landing k (Some (f t)) ≡ landed room h b
+    then_asks k t e d = ap (λ (z : Option T). followed (λ s. s) w (came f k z)) (sym d) ∙ ap (followed (λ s. s) w) e ∙ sym j
 
--- ---- a pair more
-module _ (h : Lists) (x : Float) (i : ℕ) where
-  abbrev room : Bool → Bool → Origin → Lists
-  room a b o =
-      cond (a && b) (lists (set h.angles h.pairs x) (set h.components h.pairs (component o)) (h.pairs + 1)) h
+    pub then_over : (k : List Found) {r : Option T} {l : Landed S} → came f k r ≡ landed room h a → r ≡ None → l ≡ landed room k w → l ≡ landed room h b
+    then_over k e d i =
+        i ∙ ap (λ (z : Option T). followed (λ s. s) w (came f k z)) (sym d) ∙ ap (followed (λ s. s) w) e ∙ sym j
 
-  pub no_room_angles : length h.angles ≤ h.pairs → (o : Origin) → component o ≡ i → h ≡ put_one h (entry_of x o)
-  unfolding put_one
-  no_room_angles l o e = sym (ap (λ (b : Bool). room b (ltb h.pairs (length h.components)) o) (le-ltb h.pairs (length h.angles) l))
+  -- the same where the part is the larger one's last: g reads what the larger part's code returns
+  pub part_ends : {T S V U : Type 0} (f : T → S) (g : V → U) (con : T → V) (up : S → U) (h k : List Found) (a : Way S) → ((t : T) → g (con t) ≡ up (f t))
+      → (r : Option T) (s : Option V) → came f k r ≡ landed room h a → s ≡ option_map con r → came g k s ≡ landed room h (chain up a (over []))
+  unfolding landed putting
+  part_ends f g con up h k a q (Some t) s e d =
+      ap (came g k) d ∙ ap (λ (z : _). landing k (Some z)) (q t) ∙ part_asks f up h a (over []) t e refl
+  part_ends f g con up h k a q None s e d = ap (came g k) d ∙ part_over f up h a (over []) k e refl refl
 
-  pub no_room_components : h.pairs < length h.angles → length h.components ≤ h.pairs → (o : Origin) → component o ≡ i → h ≡ put_one h (entry_of x o)
-  unfolding put_one
-  no_room_components k l o e =
-      sym (ap (λ (b : Bool). room b (ltb h.pairs (length h.components)) o) (lt-ltb h.pairs (length h.angles) k)
-      ∙ ap (λ (b : Bool). room true b o) (le-ltb h.pairs (length h.components) l))
+  -- ---- a pair more
+  module _ (h : List Found) (x : Float) (i : ℕ) where
+    abbrev more : List Found
+    more = h ++ (record { q1 = x; component = i } ∷ [])
 
-  pub put_there : h.pairs < length h.angles → h.pairs < length h.components → (o : Origin) → component o ≡ i → lists (set h.angles h.pairs x) (set h.components h.pairs i) (h.pairs + 1) ≡ put_one h (entry_of x o)
-  unfolding put_one
-  put_there k l o e =
-      ap (λ (z : ℕ). lists (set h.angles h.pairs x) (set h.components h.pairs z) (h.pairs + 1)) (sym e)
-      ∙ sym (ap (λ (b : Bool). room b (ltb h.pairs (length h.components)) o) (lt-ltb h.pairs (length h.angles) k)
-      ∙ ap (λ (b : Bool). room true b o) (lt-ltb h.pairs (length h.components) l))
+    kept : Bool → ℕ → List Found
+    kept b j = cond b (h ++ (record { q1 = x; component = j } ∷ [])) h
+
+    pub no_room : room ≤ length h → (o : Origin) → component o ≡ i → h ≡ put_one room h (entry_of x o)
+    unfolding put_one kept
+    no_room l o e = sym (ap (λ (b : Bool). kept b (component o)) (le-ltb (length h) room l))
+
+    pub put_there : length h < room → (o : Origin) → component o ≡ i → more ≡ put_one room h (entry_of x o)
+    unfolding put_one kept
+    put_there l o e = ap (kept true) (sym e) ∙ sym (ap (λ (b : Bool). kept b (component o)) (lt-ltb (length h) room l))
+
+  -- ---- a way that is over at once, and one that asks at once
+  pub nothing : {S : Type 0} (h : List Found) → landing h None ≡ landed {S = S} room h (over [])
+  unfolding landed putting
+  nothing h = refl
+
+  pub asks : {S : Type 0} (h : List Found) (s : S) → landing h (Some s) ≡ landed room h (pause [] s)
+  unfolding landed putting
+  asks h s = refl

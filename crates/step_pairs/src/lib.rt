@@ -1,22 +1,47 @@
-// The pairs (q1, i) that the machine finds: they go into two lists that the caller lends, angles and
-// components.
+// The pairs (q1, i) that the machine finds, in the list where they are kept.
 #![tactic(auto)]
 
 ghost use Rattle.std.specs.Prelude.{◌≡◌};
 ghost use Rattle.search_definition.specs.Found.{Origin, component};
-ghost use Rattle.step_pairs.specs.Landed.{lists, put_one, entry_of};
+ghost use Rattle.step_refine.specs.State.{refining_of, way_of};
+ghost use Rattle.step_pairs.specs.Landed.{put_one, entry_of, landed, came};
 
-// A pair is written and counted where both lists have room, so that no count can wrap.
-pub fn add_pair(i: u8, x: f64, qs: &mut [f64], cs: &mut [u8], at: usize) -> usize
-    ensures { (o : Origin) → component o ≡ i → lists qs.new cs.new result ≡ put_one (lists qs.old cs.old at) (entry_of x o) }
+use arrayvec::ArrayVec;
+use std::ops::ControlFlow;
+use step_refine::Refining;
+
+// A pair (q1, i): the angle q1, and the component i.
+#[derive(Clone, Copy, Default)]
+pub struct Found {
+    pub q1: f64,
+    pub component: u8,
+}
+
+// A pair is kept where the list has room.
+pub fn add_pair<const N: usize>(i: u8, x: f64, found: &mut ArrayVec<Found, N>)
+    ensures { (o : Origin) → component o ≡ i → found.new.items ≡ put_one N found.old.items (entry_of x o) }
 {
-    if at >= qs.len() {
-        return at;
+    if !found.is_full() {
+        found.push(Found {
+            q1: x,
+            component: i,
+        });
     }
-    if at >= cs.len() {
-        return at;
+}
+
+// A refinement, from its way on: it asks, or its pair is kept.
+pub fn refined<const N: usize>(
+    i: u8,
+    w: ControlFlow<f64, Refining>,
+    found: &mut ArrayVec<Found, N>,
+) -> Option<Refining>
+    ensures { (o : Origin) → component o ≡ i → came refining_of found.new.items result ≡ landed N found.old.items (way_of o w) }
+{
+    match w {
+        ControlFlow::Continue(r) => Some(r),
+        ControlFlow::Break(x) => {
+            add_pair(i, x, found);
+            None
+        }
     }
-    qs[at] = x;
-    cs[at] = i;
-    at + 1
 }

@@ -8,11 +8,26 @@ ghost use Rattle.float.specs.Num.{◌⊗◌};
 ghost use Rattle.search_definition.specs.Found.{Origin};
 ghost use Rattle.search_definition.specs.Refine as Refine;
 ghost use Rattle.search_steps.specs.RefineSteps as Steps;
-ghost use Rattle.search_pairs.specs.State.{point};
-ghost use Rattle.step_refine.specs.State.{bracket_of, refining_of, way_of};
+ghost use Rattle.step_refine.specs.State.{point_of, bracket_of, refining_of, way_of};
 
 use float::{abs, is_finite};
 use search_refine::refine::chord_zero;
+use std::ops::ControlFlow;
+
+// An angle, and the error's value there.
+#[derive(Clone, Copy, Default)]
+pub struct Point {
+    pub x: f64,
+    pub y: f64,
+}
+
+// Which end of a bracket moved last.
+#[derive(Clone, Copy, PartialEq, Eq)]
+pub enum Moved {
+    Neither,
+    First,
+    Second,
+}
 
 #[derive(Clone, Copy)]
 pub struct Bracket {
@@ -20,7 +35,7 @@ pub struct Bracket {
     pub b: f64,
     pub fa: f64,
     pub fb: f64,
-    pub side: u8,
+    pub side: Moved,
     pub x: f64,
 }
 
@@ -31,13 +46,6 @@ pub struct Refining {
     pub at: Bracket,
 }
 
-// It asks, or is over with an angle.
-#[derive(Clone, Copy)]
-pub enum RefineWay {
-    Pause(Refining),
-    Over(f64),
-}
-
 // The angle that a bracket asks.
 pub fn guess(s: Bracket) -> f64
     ensures { result ≡ Refine.next (bracket_of s) }
@@ -45,34 +53,35 @@ pub fn guess(s: Bracket) -> f64
     chord_zero(s.a, s.b, s.fa, s.fb)
 }
 
-// At most `left` turns from a bracket. A guess that is not finite ends it with no evaluation.
-pub fn way(left: usize, s: Bracket) -> RefineWay
+// At most `left` turns from a bracket: it goes on where it asks, and breaks with an angle where it is over.
+// A guess that is not finite ends it with no evaluation.
+pub fn way(left: usize, s: Bracket) -> ControlFlow<f64, Refining>
     ensures { (o : Origin) → way_of o result ≡ Steps.refine_way o left (bracket_of s) }
 {
     if left == 0 {
-        return RefineWay::Over(s.x);
+        return ControlFlow::Break(s.x);
     }
     if is_finite(guess(s)) {
-        return RefineWay::Pause(Refining {
+        return ControlFlow::Continue(Refining {
             left: left - 1,
             at: s,
         });
     }
-    RefineWay::Over(s.x)
+    ControlFlow::Break(s.x)
 }
 
-pub fn start(ax: f64, ay: f64, bx: f64, by: f64) -> RefineWay
-    ensures { (o : Origin) → way_of o result ≡ Steps.refine_start o (point ax ay) (point bx by) }
+pub fn start(p: Point, q: Point) -> ControlFlow<f64, Refining>
+    ensures { (o : Origin) → way_of o result ≡ Steps.refine_start o (point_of p) (point_of q) }
 {
     way(
         60,
         Bracket {
-            a: ax,
-            b: bx,
-            fa: ay,
-            fb: by,
-            side: 0,
-            x: ax,
+            a: p.x,
+            b: q.x,
+            fa: p.y,
+            fb: q.y,
+            side: Moved::Neither,
+            x: p.x,
         },
     )
 }
@@ -81,10 +90,7 @@ pub fn start(ax: f64, ay: f64, bx: f64, by: f64) -> RefineWay
 pub fn near(s: Bracket, y: f64) -> bool
     ensures { result ≡ Refine.near (bracket_of s) y }
 {
-    if abs(y) < 1e-15 {
-        return true;
-    }
-    abs(s.b - s.a) < 1e-14
+    abs(y) < 1e-15 || abs(s.b - s.a) < 1e-14
 }
 
 // Illinois: an end that stays twice running has its value halved.
@@ -102,39 +108,38 @@ pub fn narrowed(p: f64, y: f64, s: Bracket) -> Bracket
     ensures { bracket_of result ≡ Refine.narrowed (beq (Refine.negative y) (Refine.negative s.fa)) p y (bracket_of s) }
 {
     if (y < 0.0) == (s.fa < 0.0) {
-        let fb = illinois(s.side == 1, s.fb);
+        let fb = illinois(s.side == Moved::First, s.fb);
         return Bracket {
             a: p,
             fa: y,
             fb,
-            side: 1,
+            side: Moved::First,
             x: p,
             ..s
         };
     }
-    let fa = illinois(s.side == 2, s.fa);
+    let fa = illinois(s.side == Moved::Second, s.fa);
     Bracket {
         b: p,
         fa,
         fb: y,
-        side: 2,
+        side: Moved::Second,
         x: p,
         ..s
     }
 }
 
 // The turn's end, with the value y at the guess.
-pub fn next(r: Refining, y: f64) -> RefineWay
+pub fn next(r: Refining, y: f64) -> ControlFlow<f64, Refining>
     ensures { (o : Origin) → way_of o result ≡ Steps.refine_next o (refining_of r) y }
 {
     let s = r.at;
-    let left = r.left;
     if !is_finite(y) {
-        return RefineWay::Over(s.x);
+        return ControlFlow::Break(s.x);
     }
     let p = guess(s);
     if near(s, y) {
-        return RefineWay::Over(p);
+        return ControlFlow::Break(p);
     }
-    way(left, narrowed(p, y, s))
+    way(r.left, narrowed(p, y, s))
 }

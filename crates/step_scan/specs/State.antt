@@ -1,38 +1,52 @@
--- The code's enums of a scan as the machine's.
-use Rattle.std.specs.Prelude.{List, ℕ, suc, ◌+◌, ◌<◌, Float}
+-- The code's rows, runs and enum of a scan as the machine's.
+use Rattle.std.specs.Prelude.{List, map, ℕ, suc, ◌-◌, length, get_or, Float}
+use Rattle.std.specs.Float.{nan}
 use Rattle.search_definition.specs.Found.{Place, Origin}
 use Rattle.search_definition.specs.Dip.{Point}
 use Rattle.search_definition.specs.Scan.{crosses}
+use Rattle.search_definition.specs.Search.{row_at}
 use Rattle.search_steps.specs.Way.{Way}
 use Rattle.search_steps.specs.ScanSteps as Steps
-use Rattle.step_refine.specs.State.{refining_of}
-use Rattle.step_pairs.specs.Landed.{lists, Now, asking, none, Landed, landing}
+use Rattle.search_steps.specs.ScanSteps.{last_pair}
+use Rattle.search_steps.specs.Steps.{Samples, taken_at}
+use Rattle.step_refine.specs.State.{point_of, refining_of}
 use Rattle.step_dip.specs.State.{dip_of}
+use Rattle.step_scan.specs.declared.row.Sample as DeclaredSample
+use Rattle.step_scan.specs.declared.row.Row as DeclaredRow
+use Rattle.step_scan.specs.declared.row.Row.TheVariants.{Grid, Edge}
+use Rattle.step_scan.specs.declared.run.Run as DeclaredRun
 use Rattle.step_scan.specs.declared.scan.Scan as DeclaredScan
 use Rattle.step_scan.specs.declared.scan.Scan.TheVariants.{Crossing, Inner, Last, First}
-use Rattle.step_scan.specs.declared.scan.ScanNow as DeclaredNow
-use Rattle.step_scan.specs.declared.scan.ScanNow.TheVariants.{Pause, Over}
-use Rattle.step_scan.specs.declared.scan.ScanStep as DeclaredStep
 
-abbrev pub scan_of : DeclaredScan.Scan → Steps.Scan
-scan_of (Crossing c l r) = Steps.at_crossing c l (refining_of r)
-scan_of (Inner c l d) = Steps.at_inner c l (dip_of d)
-scan_of (Last d) = Steps.at_last (dip_of d)
-scan_of (First d) = Steps.at_first (dip_of d)
+-- component i of a sample
+abbrev pub value : ℕ → DeclaredSample.Sample → Float
+value i s = get_or s.y i nan
 
-abbrev pub now_of : DeclaredNow.ScanNow → Now Steps.Scan
-now_of (Pause z) = asking (scan_of z)
-now_of Over = none
+abbrev pub samples_of : List DeclaredSample.Sample → Samples
+samples_of l =
+    record { xs = map (λ s. s.x) l; y0 = map (value 0) l; y1 = map (value 1) l; y2 = map (value 2) l; y3 = map (value 3) l }
 
-abbrev pub scan_landed : List Float → List ℕ → DeclaredStep.ScanStep → Landed Steps.Scan
-scan_landed q c r = landing (lists q c r.pairs) (now_of r.now)
+-- what stands beyond the end of a row
+abbrev pub nowhere : Point
+nowhere = record { x = nan; y = nan }
 
--- the places of a scan are small enough to count on
-abbrev pub Small : Steps.Scan → Type 0
-Small (Steps.at_crossing c l r) = l + c < 1000000
-Small (Steps.at_inner c l d) = l + c < 1000000
-Small (Steps.at_last d) = Unit
-Small (Steps.at_first d) = Unit
+abbrev pub points : DeclaredRow.Row → ℕ → Point
+points (Grid s i) = taken_at (samples_of s.now) i
+points (Edge p) = row_at (map point_of p.now)
+
+abbrev pub len_of : DeclaredRow.Row → ℕ
+len_of (Grid s i) = length s.now
+len_of (Edge p) = length p.now
+
+abbrev pub last_of : DeclaredRun.Run → ℕ
+last_of r = last_pair r.from r.count
+
+-- in a row whose last sample but one is t: so many pairs of neighbours follow as there are up to it
+abbrev pub scan_of : ℕ → DeclaredScan.Scan → Steps.Scan
+scan_of t (Crossing l r) = Steps.at_crossing (t - l) l (refining_of r)
+scan_of t (Inner l d) = Steps.at_inner (t - l) l (dip_of d)
+scan_of t (Last d) = Steps.at_last (dip_of d)
+scan_of t (First d) = Steps.at_first (dip_of d)
 
 -- one item of a row, and w behind it
 abbrev pub item_way : (Place → Origin) → (ℕ → Point) → ℕ → ℕ → ℕ → ℕ → Way Steps.Scan → Way Steps.Scan

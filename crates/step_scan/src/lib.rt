@@ -2,4 +2,5 @@
 #![tactic(auto)]
 
 pub mod row;
+pub mod run;
 pub mod scan;

@@ -1,3 +1,2 @@
 pub mod HoldsLaws
-pub mod Room
 pub mod Ran

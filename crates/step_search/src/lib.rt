@@ -1,276 +1,153 @@
-// The whole search in steps of one evaluation each: the grid's samples, then the four components. A state is
-// plain data by value; the samples, an edge's row and the pairs lie in lent lists.
+// The whole search in steps of one evaluation each: the grid's samples, then the four components. A phase is
+// plain data by value; the samples, an edge's row and the pairs lie in lists that the caller lends.
 #![tactic(auto)]
 
-ghost use Rattle.std.specs.Prelude.{◌≡◌, List, ℕ, ◌<◌, ◌≤◌, ◌+◌, length, Float};
+ghost use Rattle.std.specs.Prelude.{◌≡◌, List, ℕ, ◌<◌, ◌≤◌, length};
+ghost use Rattle.std.specs.Option.{option_map};
 ghost use Rattle.search_error.specs.Fixed.{error_at};
 ghost use Rattle.search_steps.specs.Steps as Steps;
 ghost use Rattle.search_steps.specs.Steps.{State, angle_in, more};
 ghost use Rattle.search_steps.specs.Kept.{PhaseKept};
 ghost use Rattle.search_steps.specs.Run as Run;
-ghost use Rattle.step_pairs.specs.Landed.{lists};
-ghost use Rattle.step_search.specs.Holds.{values, memory, first_samples, phase_of, at_phase, is_over, Roomy, Arrived, Came, Holds, StepsTo};
+ghost use Rattle.step_refine.specs.declared.Point as DeclaredPoint;
+ghost use Rattle.step_scan.specs.State.{samples_of};
+ghost use Rattle.step_phase.specs.State.{place_of};
+ghost use Rattle.step_search.specs.Holds.{values, memory, phase_of, phase_at, is_over, Holds, StepsTo};
 
+use arrayvec::ArrayVec;
 use search::angle;
 use search_error::{Fixed, error_given_q1};
-use step_component::component::Component;
-use step_phase::phase::{PhaseNow, PhaseStep, components_way, search_angle, search_next};
-use step_scan::row::not_a_number;
+use step_component::component::component_angle;
+use step_pairs::Found;
+use step_phase::phase::{Place, components_way, search_next};
+use step_refine::Point;
+use step_scan::row::{Row, Sample, not_a_number};
 
-// Asks the grid's angle k; or is in component i, of which 3 - i follow; or is over.
+// Asks the grid's angle behind the samples taken; or is in a component; or is over.
 #[derive(Clone, Copy)]
 pub enum SearchPhase {
-    Sampling(usize),
-    Searching(u8, Component),
+    Sampling,
+    Searching(Place),
     Ended,
 }
 
-// Where the search is, and how many pairs the lists hold.
-#[derive(Clone, Copy)]
-pub struct SearchState {
-    pub phase: SearchPhase,
-    pub pairs: usize,
-}
-
-pub fn start() -> SearchState
-    ensures { (n : ℕ) (q xs y0 y1 y2 y3 rx ry : List Float) (c : List ℕ) → Holds n q c (Steps.start n) result (memory xs y0 y1 y2 y3 rx ry q c) }
+// Nothing is taken and nothing found yet.
+pub fn start<const N: usize>(
+    samples: &mut ArrayVec<Sample, 401>,
+    found: &mut ArrayVec<Found, N>,
+) -> SearchPhase
+    ensures { (n : ℕ) (r : List DeclaredPoint.Point) → Holds n N (Steps.start n) result (memory samples.new.items r found.new.items) }
 {
-    let phase = SearchPhase::Sampling(0);
-    SearchState { phase, pairs: 0 }
+    samples.clear();
+    found.clear();
+    SearchPhase::Sampling
 }
 
 pub fn over(phase: SearchPhase) -> bool
     ensures { result ≡ is_over phase }
 {
     match phase {
-        SearchPhase::Sampling(_) => false,
-        SearchPhase::Searching(_, _) => false,
         SearchPhase::Ended => true,
+        _ => false,
     }
 }
 
-// The angle that a state asks.
+// The angle that a phase asks.
 pub fn asked_angle(
-    n: usize,
+    n: u32,
     phase: SearchPhase,
-    xs: &[f64],
-    y0: &[f64],
-    y1: &[f64],
-    y2: &[f64],
-    y3: &[f64],
-    rx: &[f64],
-    ry: &[f64],
+    samples: &ArrayVec<Sample, 401>,
+    row: &ArrayVec<Point, 9>,
 ) -> f64
-    requires { Roomy n xs.now y0.now y1.now y2.now y3.now rx.now ry.now × PhaseKept n (phase_of n rx.now ry.now phase) }
-    ensures { result ≡ angle_in n (first_samples (n + 1) xs.now y0.now y1.now y2.now y3.now) (phase_of n rx.now ry.now phase) }
+    ensures { result ≡ angle_in n (samples_of samples.now.items) (phase_of n samples.now.items row.now.items phase) }
 {
     match phase {
-        SearchPhase::Sampling(k) => angle(n as u32, k as u32),
-        SearchPhase::Searching(i, z) => {
-            let m = n + 1;
-            search_angle(
-                i,
-                &xs[..m],
-                &y0[..m],
-                &y1[..m],
-                &y2[..m],
-                &y3[..m],
-                z,
-                rx,
-                ry,
-            )
+        SearchPhase::Sampling => angle(n, samples.len() as u32),
+        SearchPhase::Searching(p) => {
+            component_angle(Row::Grid(samples.as_slice(), p.i), p.at, row)
         }
         SearchPhase::Ended => not_a_number(),
     }
 }
 
 // Where the walk over the components has come to, as the whole search's.
-pub fn arrived(r: PhaseStep) -> SearchState
-    ensures { Arrived r result }
+pub fn arrived(r: Option<Place>) -> SearchPhase
+    ensures { (n : ℕ) (s : List _) (l : List DeclaredPoint.Point) → phase_of n s l result ≡ phase_at (option_map (place_of n l) r) }
 {
-    let pairs = r.pairs;
-    let now = r.now;
-    match now {
-        PhaseNow::Pause(i, z) => {
-            let phase = SearchPhase::Searching(i, z);
-            SearchState { phase, pairs }
-        }
-        PhaseNow::Over => {
-            let phase = SearchPhase::Ended;
-            SearchState { phase, pairs }
-        }
+    match r {
+        Some(p) => SearchPhase::Searching(p),
+        None => SearchPhase::Ended,
     }
 }
 
-// All samples are taken: up to the first evaluation in a component.
-pub fn walk_all(
-    n: usize,
-    xs: &[f64],
-    y0: &[f64],
-    y1: &[f64],
-    y2: &[f64],
-    y3: &[f64],
-    qs: &mut [f64],
-    cs: &mut [u8],
-    pairs: usize,
-) -> SearchState
-    requires { (n ≤ 400) × (n < length xs.now) × (n < length y0.now) × (n < length y1.now) × (n < length y2.now) × (n < length y3.now) }
-    ensures { (u v : List Float) → Came n u v (lists qs.old cs.old pairs) (Steps.components_way n (first_samples (n + 1) xs.now y0.now y1.now y2.now y3.now) 4 0) qs.new cs.new result }
-{
-    let m = n + 1;
-    let r = components_way(
-        0,
-        &xs[..m],
-        &y0[..m],
-        &y1[..m],
-        &y2[..m],
-        &y3[..m],
-        n,
-        qs,
-        cs,
-        pairs,
-    );
-    arrived(r)
-}
-
-// Sample k of the grid: its angle, and the error's four values e there.
-pub fn put_sample(
-    k: usize,
-    x: f64,
+// What the search comes to from the sample that it asks, where e are the error's values. The last sample's step
+// goes on to the first evaluation in a component.
+pub fn sample_next<const N: usize>(
+    n: u32,
     e: [f64; 4],
-    xs: &mut [f64],
-    y0: &mut [f64],
-    y1: &mut [f64],
-    y2: &mut [f64],
-    y3: &mut [f64],
-)
-    requires { (k < length xs.old) × (k < length y0.old) × (k < length y1.old) × (k < length y2.old) × (k < length y3.old) }
-    ensures { first_samples (k + 1) xs.new y0.new y1.new y2.new y3.new ≡ more (first_samples k xs.old y0.old y1.old y2.old y3.old) x (values e) }
+    samples: &mut ArrayVec<Sample, 401>,
+    found: &mut ArrayVec<Found, N>,
+) -> SearchPhase
+    requires { (length samples.old.items ≤ n) × (n ≤ 400) }
+    ensures { (r : List DeclaredPoint.Point) → StepsTo n N e SearchPhase.Sampling (memory samples.old.items r found.old.items) result (memory samples.new.items r found.new.items) }
 {
-    xs[k] = x;
-    y0[k] = e[0];
-    y1[k] = e[1];
-    y2[k] = e[2];
-    y3[k] = e[3];
-}
-
-// What the search comes to from sample k, where e are the error's values. The last sample's step goes on to
-// the first evaluation in a component.
-pub fn sample_next(
-    n: usize,
-    k: usize,
-    e: [f64; 4],
-    xs: &mut [f64],
-    y0: &mut [f64],
-    y1: &mut [f64],
-    y2: &mut [f64],
-    y3: &mut [f64],
-    qs: &mut [f64],
-    cs: &mut [u8],
-    pairs: usize,
-) -> SearchState
-    requires { (k ≤ n) × (n ≤ 400) × (n < length xs.old) × (n < length y0.old) × (n < length y1.old) × (n < length y2.old) × (n < length y3.old) }
-    ensures { (u v : List Float) → StepsTo n e (at_phase (SearchPhase.Sampling k) pairs) (memory xs.old y0.old y1.old y2.old y3.old u v qs.old cs.old) result (memory xs.new y0.new y1.new y2.new y3.new u v qs.new cs.new) }
-{
-    let x = angle(n as u32, k as u32);
-    put_sample(k, x, e, xs, y0, y1, y2, y3);
-    if k < n {
-        let phase = SearchPhase::Sampling(k + 1);
-        return SearchState { phase, pairs };
+    let k = samples.len();
+    let x = angle(n, k as u32);
+    samples.push(Sample { x, y: e });
+    if k < n as usize {
+        return SearchPhase::Sampling;
     }
-    walk_all(n, xs, y0, y1, y2, y3, qs, cs, pairs)
+    arrived(components_way(0, samples.as_slice(), n, found))
 }
 
-// What the search comes to in component i, where e are the error's values at the angle that it asks.
-pub fn component_next(
-    n: usize,
-    i: u8,
-    z: Component,
+// What the search comes to in a component, where e are the error's values at the angle that it asks.
+pub fn component_next<const N: usize>(
+    n: u32,
+    p: Place,
     e: [f64; 4],
-    xs: &[f64],
-    y0: &[f64],
-    y1: &[f64],
-    y2: &[f64],
-    y3: &[f64],
-    rx: &mut [f64],
-    ry: &mut [f64],
-    qs: &mut [f64],
-    cs: &mut [u8],
-    pairs: usize,
-) -> SearchState
-    requires { Roomy n xs.now y0.now y1.now y2.now y3.now rx.old ry.old × PhaseKept n (phase_of n rx.old ry.old (SearchPhase.Searching i z)) }
-    ensures { StepsTo n e (at_phase (SearchPhase.Searching i z) pairs) (memory xs.now y0.now y1.now y2.now y3.now rx.old ry.old qs.old cs.old) result (memory xs.now y0.now y1.now y2.now y3.now rx.new ry.new qs.new cs.new) }
+    samples: &ArrayVec<Sample, 401>,
+    row: &mut ArrayVec<Point, 9>,
+    found: &mut ArrayVec<Found, N>,
+) -> SearchPhase
+    requires { PhaseKept n (place_of n row.old.items p) }
+    ensures { StepsTo n N e (SearchPhase.Searching p) (memory samples.now.items row.old.items found.old.items) result (memory samples.now.items row.new.items found.new.items) }
 {
-    let m = n + 1;
-    let y = e[i as usize];
-    let r = search_next(
-        i,
-        &xs[..m],
-        &y0[..m],
-        &y1[..m],
-        &y2[..m],
-        &y3[..m],
-        n,
-        z,
-        y,
-        rx,
-        ry,
-        qs,
-        cs,
-        pairs,
-    );
-    arrived(r)
+    let y = e[p.i as usize];
+    arrived(search_next(p, samples.as_slice(), n, y, row, found))
 }
 
-// What a state comes to, where e are the error's values at the angle that it asks.
-pub fn next(
-    n: usize,
-    f: SearchState,
+// What a phase comes to, where e are the error's values at the angle that it asks.
+pub fn next<const N: usize>(
+    n: u32,
+    phase: SearchPhase,
     e: [f64; 4],
-    xs: &mut [f64],
-    y0: &mut [f64],
-    y1: &mut [f64],
-    y2: &mut [f64],
-    y3: &mut [f64],
-    rx: &mut [f64],
-    ry: &mut [f64],
-    qs: &mut [f64],
-    cs: &mut [u8],
-) -> SearchState
-    requires { Roomy n xs.old y0.old y1.old y2.old y3.old rx.old ry.old × PhaseKept n (phase_of n rx.old ry.old f.phase) }
-    ensures { StepsTo n e f (memory xs.old y0.old y1.old y2.old y3.old rx.old ry.old qs.old cs.old) result (memory xs.new y0.new y1.new y2.new y3.new rx.new ry.new qs.new cs.new) }
+    samples: &mut ArrayVec<Sample, 401>,
+    row: &mut ArrayVec<Point, 9>,
+    found: &mut ArrayVec<Found, N>,
+) -> SearchPhase
+    requires { (n ≤ 400) × PhaseKept n (phase_of n samples.old.items row.old.items phase) }
+    ensures { StepsTo n N e phase (memory samples.old.items row.old.items found.old.items) result (memory samples.new.items row.new.items found.new.items) }
 {
-    let pairs = f.pairs;
-    let phase = f.phase;
     match phase {
-        SearchPhase::Sampling(k) => { sample_next(n, k, e, xs, y0, y1, y2, y3, qs, cs, pairs) }
-        SearchPhase::Searching(i, z) => {
-            component_next(n, i, z, e, xs, y0, y1, y2, y3, rx, ry, qs, cs, pairs)
-        }
-        SearchPhase::Ended => f,
+        SearchPhase::Sampling => sample_next(n, e, samples, found),
+        SearchPhase::Searching(p) => component_next(n, p, e, samples, row, found),
+        SearchPhase::Ended => phase,
     }
 }
 
-// One step: one evaluation of the error, at the angle that the state asks.
-pub fn step(
+// One step: one evaluation of the error, at the angle that the phase asks.
+pub fn step<const N: usize>(
     fixed: Fixed,
-    n: usize,
-    f: SearchState,
-    xs: &mut [f64],
-    y0: &mut [f64],
-    y1: &mut [f64],
-    y2: &mut [f64],
-    y3: &mut [f64],
-    rx: &mut [f64],
-    ry: &mut [f64],
-    qs: &mut [f64],
-    cs: &mut [u8],
-) -> SearchState
-    requires { Roomy n xs.old y0.old y1.old y2.old y3.old rx.old ry.old × PhaseKept n (phase_of n rx.old ry.old f.phase) }
-    ensures { (q : List Float) (c : List ℕ) (s : State) → Holds n q c s f (memory xs.old y0.old y1.old y2.old y3.old rx.old ry.old qs.old cs.old) → Holds n q c (Run.step (error_at fixed) n s) result (memory xs.new y0.new y1.new y2.new y3.new rx.new ry.new qs.new cs.new) }
+    n: u32,
+    phase: SearchPhase,
+    samples: &mut ArrayVec<Sample, 401>,
+    row: &mut ArrayVec<Point, 9>,
+    found: &mut ArrayVec<Found, N>,
+) -> SearchPhase
+    requires { (n ≤ 400) × PhaseKept n (phase_of n samples.old.items row.old.items phase) }
+    ensures { (s : State) → Holds n N s phase (memory samples.old.items row.old.items found.old.items) → Holds n N (Run.step (error_at fixed) n s) result (memory samples.new.items row.new.items found.new.items) }
 {
-    let phase = f.phase;
-    let x = asked_angle(n, phase, xs, y0, y1, y2, y3, rx, ry);
+    let x = asked_angle(n, phase, samples, row);
     let e = error_given_q1(fixed, x);
-    next(n, f, e, xs, y0, y1, y2, y3, rx, ry, qs, cs)
+    next(n, phase, e, samples, row, found)
 }

@@ -1,4 +1,3 @@
--- `step_refine::guess` meets its contract. Assumes nothing.
 use Rattle.search_definition.specs.Refine.{next}
 use Rattle.step_refine.proofs.guess.Goals as goal
 

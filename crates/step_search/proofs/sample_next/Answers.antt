@@ -1,25 +1,30 @@
--- `step_search::sample_next` meets its contract. Assumes nothing.
-use native.Mathlib.Omega.{arith}
+use Rattle.std.proofs.Common.{◌≡◌, ◌∙◌, ap, ◌<◌, ◌≤◌, ℕ, List, length, arith}
 use Rattle.search_definition.specs.Search.{angle, delta}
+use Rattle.search_steps.specs.Steps.{components_way}
+use Rattle.step_pairs.specs.Landed.{landed}
+use Rattle.step_scan.specs.State.{samples_of}
+use Rattle.step_scan.specs.declared.row.Sample.{Sample}
 use Rattle.step_search.specs.Holds.{memory}
 use Rattle.step_search.proofs.HoldsLaws.{sample_goes, sample_ends}
-use borrow.Author.Rules.{rules}
 use Rattle.step_search.proofs.sample_next.Goals as goal
-
-pub overflow_cast-n : goal.overflow_cast-n
-overflow_cast-n c = omega (arith, c.requires.1)
-
-pub overflow_cast-k : goal.overflow_cast-k
-overflow_cast-k c = omega (arith, c.requires.0, c.requires.1)
 
 pub returns-then-k-n : goal.returns-then-k-n
 unfolding angle delta
-returns-then-k-n c =
+returns-then-k-n g c =
     let a = c.args in
-    λ u v q d s h. sample_goes a.n q d s a.e a.k a.pairs (memory a.xs.now a.y0.now a.y1.now a.y2.now a.y3.now u v a.qs.now a.cs.now) h _ _ _ _ _ c.angle-x.ensures c.put_sample.ensures c.if-k-n.true
+    let t = a.samples.now.items in
+    let ex : c.angle-x.result ≡ angle a.n (length t) = c.angle-x.ensures ∙ ap (λ (k : ℕ). angle a.n k) c.len-k.ensures.value in
+    let l : length t < a.n = omega (arith, c.if-k-n.true, c.len-k.ensures.value) in
+    λ r s h. sample_goes a.n g.row.N s a.e (memory t r a.found.now.items) h c.push.new.self.items ex c.push.ensures.items r l
 
 pub returns : goal.returns
 unfolding angle delta
-returns c =
+returns g c =
     let a = c.args in
-    λ u v q d s h. sample_ends a.n q d s a.e a.k a.pairs (memory a.xs.now a.y0.now a.y1.now a.y2.now a.y3.now u v a.qs.now a.cs.now) h _ _ _ _ _ c.angle-x.ensures c.put_sample.ensures u v _ _ c.walk_all.result (omega (arith, c.if-k-n.false, c.requires.0)) (c.walk_all.ensures u v)
+    let t = a.samples.now.items in
+    let ex : c.angle-x.result ≡ angle a.n (length t) = c.angle-x.ensures ∙ ap (λ (k : ℕ). angle a.n k) c.len-k.ensures.value in
+    let l : a.n ≤ length t = omega (arith, c.if-k-n.false, c.len-k.ensures.value) in
+    λ r s h.
+    sample_ends a.n g.row.N s a.e (memory t r a.found.now.items) h c.push.new.self.items ex c.push.ensures.items r c.components_way.new.found.items c.components_way.result c.arrived.result l
+    (c.components_way.ensures r ∙ ap (λ (v : List Sample). landed g.row.N a.found.now.items (components_way a.n (samples_of v) 4 0)) c.as_slice.ensures.value)
+    (c.arrived.ensures a.n c.push.new.self.items r)

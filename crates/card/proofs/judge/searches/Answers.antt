@@ -1,14 +1,11 @@
 -- Refused, of another family, or searched.
-use Prim.Native.Nat.{ℕ, ◌≤◌}
+use Prim.Native.Nat.{ℕ}
 use mathlib.Core.Path.{◌≡◌, refl, sym, ap, ◌∙◌}
-use mathlib.Core.Bool.{Bool, true, false, cond, ◌&&◌}
-use mathlib.Core.List.{List, []}
-use borrow.Author.Rules.{rules}
+use mathlib.Core.Bool.{Bool, true, false, ◌&&◌}
+use mathlib.Core.List.{List}
 use borrow.Author.Tests.{eq-eqb, ne_eqb}
 use lib.Dec.{eqb}
 use lib.Ieee.{Float}
-use lib.ListN.{length}
-use Rattle.scalar.proofs.Order.{by_test}
 use Rattle.block.specs.Block as Block
 use Rattle.refusals.specs.Judge.{judge}
 use Rattle.limits.specs.Limits.{refusal_10}
@@ -43,11 +40,11 @@ module _ (block : List ℕ) {first : ℕ} (e : first ≡ Block.refusal block) wh
         and-true true = refl
         and-true false = refl
 
-pub returns-then-refusal-ne0 : goal.returns-then-refusal-ne0
-returns-then-refusal-ne0 c = search damaged
+pub returns-then-number_of-ne0 : goal.returns-then-number_of-ne0
+returns-then-number_of-ne0 c = let e = c.number_of.ensures ∙ c.refusal.ensures in search damaged
 
 pub returns-then-family-ne6 : goal.returns-then-family-ne6
-returns-then-family-ne6 c = search other
+returns-then-family-ne6 c = let e = c.number_of.ensures ∙ c.refusal.ensures in search other
 
 pub returns : goal.returns
-returns c = search judged
+returns c = let e = c.number_of.ensures ∙ c.refusal.ensures in let e' = c.number_of-2.ensures ∙ c.judge.ensures in search judged

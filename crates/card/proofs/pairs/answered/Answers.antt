@@ -1,9 +1,7 @@
 -- Of the arm and the pose of the numbers.
-use Prim.Native.Nat.{ℕ, ◌<◌, ◌≤◌}
-use mathlib.Core.Path.{◌≡◌, sym}
-use mathlib.Core.Bool.{Bool, true, false}
+use Prim.Native.Nat.{ℕ}
+use mathlib.Core.Path.{◌≡◌}
 use mathlib.Core.List.{List}
-use borrow.Author.Rules.{rules}
 use lib.Dec.{ltb}
 use lib.Ieee.{Float}
 use Rattle.linear.specs.Matrix.{Matrix}

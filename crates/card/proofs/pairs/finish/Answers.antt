@@ -1,56 +1,46 @@
 -- The answers of pairs that have them, each written where there is room.
-use Prim.Native.Nat.{ℕ, min, ◌/◌, ◌≤◌}
-use mathlib.Core.Path.{◌≡◌, refl, sym, ap, ◌∙◌}
-use mathlib.Core.Bool.{true, false, true≢false}
-use mathlib.Core.List.{List, []}
-use native.Mathlib.Omega.{arith}
-use borrow.Author.Rules.{rules}
-use lib.Ieee.{Float}
-use lib.ListN.{length, take}
+use Rattle.std.proofs.Common.{◌≡◌, ◌∙◌, refl, sym, ap, ℕ, ◌≤◌, ◌/◌, min, length, List, [], take, map, true, Float}
+use Rattle.std.proofs.lemmas.List.{length-take-le, get_or-take}
 use Rattle.answers.specs.Rows.{room_of}
 use Rattle.answers.specs.Written.{room, written, flagged, Wrote}
+use Rattle.answers.specs.declared.Answer.{Answer}
 use Rattle.answers.proofs.Laws.{by_name}
 use Rattle.refusals.specs.Judge.{refusal_9}
-use Rattle.limits.specs.Limits.{TwelveOrNone, allowed}
+use Rattle.refusals.specs.declared.family.Family.TheVariants.{TwoParallel}
+use Rattle.limits.specs.Limits.{allowed}
 use Rattle.limits.proofs.Filter.{unlimited}
-use Rattle.full_list.specs.Listed.{listed, Sound}
-use Rattle.full_list.specs.declared.FullList.{FullList}
-use Rattle.full_list.proofs.Laws.{listed_long}
-use Rattle.solve.specs.declared.Solved.{Solved}
+use Rattle.family6_answers.specs.Pairs.{zipped}
+use Rattle.family6.specs.Kept.{Usable}
+use Rattle.family6.specs.TwoParallel.{answer_of}
+use Rattle.full_list.specs.Full.{tolerance}
+use Rattle.full_list.specs.Task.{task_of}
+use Rattle.full_list.specs.declared.task.Task.{Task}
+use Rattle.full_list.proofs.Laws.{pairs_long}
+use Rattle.solve.specs.InNumbers.{Solved, gives}
 use Rattle.card.specs.Usable.{usable, pair_answers}
 use Rattle.card.proofs.UsableLaws.{all_usable}
 use Rattle.card.proofs.pairs.finish.Goals as goal
 
-abbrev list_of : ℕ → ℕ → FullList
-list_of pairs evals = record { answers = pairs; evals = evals; searched = true }
+module _ (arm pose qs : List Float) (cs : List ℕ) (pairs : ℕ) {task : Task} (e : task ≡ task_of TwoParallel 0 arm pose) (in-qs : pairs ≤ length qs) (in-cs : pairs ≤ length cs) where
+  same : length (take pairs cs) ≡ length (take pairs qs)
+  same = length-take-le pairs cs in-cs ∙ sym (length-take-le pairs qs in-qs)
 
-module _ (arm pose qs : List Float) (cs : List ℕ) (pairs evals : ℕ) (a39 : length arm ≡ 39) (p12 : length pose ≡ 12) (few : pairs ≤ 17600)
-    (in-qs : pairs ≤ length qs) (in-cs : pairs ≤ length cs) (u : usable arm pose qs cs pairs ≡ true) where
-  sound : Sound (list_of pairs evals) arm pose qs cs
-  sound =
-      record {
-        arm_long = a39;
-        pose_long = p12;
-        few = few;
-        pairs = λ _. (in-qs, in-cs, all_usable arm pose qs cs pairs u);
-        sixes = λ e. absurd (true≢false e);
-      }
+  few : pairs ≤ 17600 → length (take pairs qs) ≤ 17600
+  few h = rw (length-take-le pairs qs in-qs) h
 
-  all : allowed (take 0 qs) (listed (list_of pairs evals) arm pose qs cs) ≡ pair_answers arm pose qs cs pairs
-  unfolding listed pair_answers
-  all = unlimited (listed (list_of pairs evals) arm pose qs cs)
+  kept : usable arm pose qs cs pairs ≡ true → Usable task.r_06 task.p_0t task.kin (length (take pairs qs)) (take pairs qs) (take pairs cs)
+  kept u = rw (e, length-take-le pairs qs in-qs) (λ j h. rw (get_or-take pairs cs j 0 h, get_or-take pairs qs j _ h) (all_usable arm pose qs cs pairs u j h))
 
-  module _ (angles : List Float) (flags : List ℕ) {a : List Float} {b : List ℕ} {count : ℕ}
-      (w : Wrote (allowed (take 0 qs) (listed (list_of pairs evals) arm pose qs cs)) angles flags a b count) where
+  abbrev of : List Answer
+  of = map (answer_of task.r_06 task.p_0t task.kin tolerance) (zipped (take pairs qs) (take pairs cs))
+
+  all : of ≡ pair_answers arm pose qs cs pairs
+  unfolding pair_answers
+  all = rw e refl
+
+  module _ (angles : List Float) (flags : List ℕ) {a : List Float} {b : List ℕ} {count : ℕ} (w : Wrote (allowed [] of) angles flags a b count) where
     wrote : Wrote (pair_answers arm pose qs cs pairs) angles flags a b count
-    wrote = by_name all w
-
-    so_many : count ≡ pairs
-    so_many = w.all_counted ∙ ap length (unlimited (listed (list_of pairs evals) arm pose qs cs)) ∙ sym (listed_long (list_of pairs evals) arm pose qs cs sound)
-
-    result : {s : Solved} → s ≡ record { refusal = refusal_9 count (min (length angles / 6) (length flags)); answers = count; evals = evals } → s ≡ record { refusal = refusal_9 pairs (room angles flags); answers = pairs; evals = evals }
-    unfolding room_of
-    result e = rw so_many at e
+    wrote = by_name (unlimited of ∙ all) w
 
     angles-written : a ≡ written (pair_answers arm pose qs cs pairs) angles flags
     angles-written = wrote.all_angles
@@ -58,11 +48,27 @@ module _ (arm pose qs : List Float) (cs : List ℕ) (pairs evals : ℕ) (a39 : l
     flags-written : b ≡ flagged (pair_answers arm pose qs cs pairs) angles flags
     flags-written = wrote.all_flags
 
-none : (l : List Float) → TwelveOrNone (take 0 l)
-none l h = absurd (h refl)
+    so_many : count ≡ pairs
+    so_many = w.all_counted ∙ ap length (unlimited of) ∙ sym (pairs_long (take pairs qs) (take pairs cs) same (answer_of task.r_06 task.p_0t task.kin tolerance)) ∙ length-take-le pairs qs in-qs
 
-pub write_allowed-count-requires : goal.write_allowed-count-requires
-write_allowed-count-requires c = (search sound, search none)
+    result : (evals : ℕ) {s : Solved} → s ≡ gives count evals (min (length angles / 6) (length flags)) → s ≡ record { refusal = refusal_9 pairs (room angles flags); answers = pairs; evals = evals }
+    unfolding room_of
+    result evals h = rw so_many at h
 
-pub returns : goal.returns
-returns c = record { result = search result; angles = search angles-written; flags = search flags-written }
+pub invariant_of-list : goal.invariant_of-list
+invariant_of-list c =
+    let r = c.requires in
+    record {
+      as_many = same c.args.arm.now c.args.pose.now c.args.qs.now c.args.cs.now c.args.pairs c.new.ensures r.3 r.4;
+      few = few c.args.arm.now c.args.pose.now c.args.qs.now c.args.cs.now c.args.pairs c.new.ensures r.3 r.4 r.2;
+      usable = kept c.args.arm.now c.args.pose.now c.args.qs.now c.args.cs.now c.args.pairs c.new.ensures r.3 r.4 r.5;
+    }
+
+pub returns-clause-result : goal.returns-clause-result
+returns-clause-result c = search result
+
+pub returns-clause-angles : goal.returns-clause-angles
+returns-clause-angles c = search angles-written
+
+pub returns-clause-flags : goal.returns-clause-flags
+returns-clause-flags c = search flags-written

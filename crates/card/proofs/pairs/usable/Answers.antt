@@ -4,9 +4,8 @@ use mathlib.Core.Path.{◌≡◌, refl, sym, ap, ◌∙◌}
 use mathlib.Core.Bool.{Bool, true, false, ◌&&◌}
 use mathlib.Core.List.{List}
 use native.Mathlib.Omega.{arith}
-use borrow.Author.Rules.{rules}
 use lib.Ieee.{Float, nan}
-use lib.ListN.{length, get_or}
+use lib.ListN.{get_or}
 use Rattle.card.specs.Usable.{answered, usable}
 use Rattle.card.proofs.pairs.usable.Goals as goal
 

@@ -1,13 +1,7 @@
 -- The pairs that are left decide as all do.
-use Prim.Native.Nat.{ℕ, suc, ◌-◌, ◌≤◌, ◌<◌}
-use mathlib.Core.Path.{◌≡◌, refl, sym, ap, ◌∙◌}
-use mathlib.Core.Bool.{Bool, true, false, ◌&&◌}
-use mathlib.Core.List.{List}
-use native.Mathlib.Omega.{arith}
-use borrow.Author.Rules.{rules}
-use lib.Ieee.{Float, nan}
-use lib.ListN.{length, get_or}
-use Rattle.card.specs.Usable.{answered, usable}
+use Prim.Native.Nat.{◌≤◌}
+use mathlib.Core.Path.{◌≡◌}
+use Rattle.card.specs.Usable.{usable}
 use Rattle.card.proofs.pairs.usable.Given as goal
 
 abbrev pub invariant-loop-left : goal.invariant-loop-left

@@ -1,5 +1,4 @@
 -- `card::registers::proper` meets its contract. Assumes nothing.
-use borrow.Author.Rules.{rules}
 use Rattle.card.proofs.RegisterLaws.{of_another_length, with_a_command, with_a_flag, with-a-status, by-its-status}
 use Rattle.card.proofs.registers.proper.Goals as goal
 

@@ -1,102 +1,64 @@
--- `step_component::component::component_next` meets its contract. Assumes nothing.
-use mathlib.Core.Path.{◌≡◌, refl, sym, ◌∙◌, ap}
-use native.Mathlib.Omega.{arith}
-use Rattle.step_pairs.specs.Landed.{lists, landed}
-use Rattle.search_pairs.specs.State.{row}
-use Rattle.search_definition.specs.Found.{grid, edge, component}
-use Rattle.step_component.proofs.ComponentLaws.{run_steps, edge_steps, run_handy, edge_handy}
-use borrow.Author.Rules.{rules}
+use Rattle.std.proofs.Common.{◌≡◌, refl, ◌∙◌, ap, ap₂, suc, ◌+◌, ◌-◌, ℕ, add-one, arith}
+use Rattle.search_definition.specs.Found.{component, grid, edge}
+use Rattle.search_definition.specs.Search.{Gap}
+use Rattle.search_steps.specs.ScanSteps.{scan_next}
+use Rattle.search_steps.specs.EdgeSteps.{edge_next}
+use Rattle.search_steps.specs.ComponentSteps.{in_run, in_edge, gap_at, edges_way, runs_way, component_next}
+use Rattle.step_pairs.specs.Landed.{landed}
+use Rattle.step_pairs.proofs.LandedLaws.{part_asks, part_over}
+use Rattle.step_scan.specs.State.{points, scan_of, last_of}
+use Rattle.step_edge.specs.State.{edge_of}
+use Rattle.step_component.specs.declared.component.Component.TheVariants.{InRun, InEdge}
+use Rattle.step_component.proofs.ComponentLaws.{step_from}
 use Rattle.step_component.proofs.component.component_next.Goals as goal
 
-pub last_pair-t-requires : goal.last_pair-t-requires
-last_pair-t-requires c =
+pub returns-in-Some : goal.returns-in-Some
+unfolding component component_next
+returns-in-Some g c =
     let a = c.args in
-    let u = a.rx.now in
-    let v = a.ry.now in
-    let d = run_handy u v a.z c.requires.0 _ _ _ _ c.in-InRun.is in
-    omega (arith, d.0)
+    let P = points a.grid in
+    let u = c.in-InRun.run' in
+    let w = c.in-InRun.w in
+    let h = a.found.now.items in
+    step_from a.i P a.n a.row.now.items a.z (InRun u w) c.in-InRun.is g.row.N h a.y
+    (part_asks g.row.N (scan_of (last_of u)) (in_run (a.n - (u.from + u.count)) u.from u.count) h (scan_next (grid a.i) P u.from (last_of u) (scan_of (last_of u) w) a.y) (runs_way a.i P a.n (a.n - (u.from + u.count)) (suc (u.from + u.count)) 0) _
+    (c.scan_next.ensures (grid a.i) (λ p. refl)) c.in-Some.is)
 
-pub scan_next-d-requires : goal.scan_next-d-requires
-scan_next-d-requires c =
+pub returns-in-None : goal.returns-in-None
+unfolding component component_next
+returns-in-None g c =
     let a = c.args in
-    let u = a.rx.now in
-    let v = a.ry.now in
-    let d = run_handy u v a.z c.requires.0 _ _ _ _ c.in-InRun.is in
-    (omega (arith, d.0), omega (arith, d.1, c.last_pair-t.ensures), d.2)
+    let P = points a.grid in
+    let u = c.in-InRun.run' in
+    let w = c.in-InRun.w in
+    let h = a.found.now.items in
+    let e : suc a.n - (u.from + u.count + 1) ≡ a.n - (u.from + u.count) = omega arith in
+    step_from a.i P a.n a.row.now.items a.z (InRun u w) c.in-InRun.is g.row.N h a.y
+    (part_over g.row.N (scan_of (last_of u)) (in_run (a.n - (u.from + u.count)) u.from u.count) h (scan_next (grid a.i) P u.from (last_of u) (scan_of (last_of u) w) a.y) (runs_way a.i P a.n (a.n - (u.from + u.count)) (suc (u.from + u.count)) 0) _
+    (c.scan_next.ensures (grid a.i) (λ p. refl)) c.in-None.is
+    (c.runs_way.ensures a.row.now.items ∙ ap₂ (λ (k l : ℕ). landed g.row.N c.scan_next.new.found.items (runs_way a.i P a.n k l 0)) e (add-one (u.from + u.count))))
 
-pub overflow_add-s : goal.overflow_add-s
-overflow_add-s c =
+pub returns-in-Some-edge_next : goal.returns-in-Some-edge_next
+unfolding component component_next
+returns-in-Some-edge_next g c =
     let a = c.args in
-    let u = a.rx.now in
-    let v = a.ry.now in
-    let d = run_handy u v a.z c.requires.0 _ _ _ _ c.in-InRun.is in
-    omega (arith, d.0)
+    let P = points a.grid in
+    let k = c.in-InEdge.k in
+    let w = edge_of a.row.now.items c.in-InEdge.w in
+    let h = a.found.now.items in
+    step_from a.i P a.n a.row.now.items a.z (InEdge k c.in-InEdge.w) c.in-InEdge.is g.row.N h a.y
+    (part_asks g.row.N (edge_of c.edge_next.new.row.items) (in_edge (a.n - suc k) k) h (edge_next (edge a.i k) (gap_at a.i P a.n k).inside w a.y) (edges_way a.i P a.n (a.n - suc k) (suc k)) _
+    (c.edge_next.ensures (edge a.i k) (λ p. refl) ∙ ap (λ (z : Gap). landed g.row.N h (edge_next (edge a.i k) z.inside w a.y)) (c.gap_at.ensures a.i a.n)) c.in-Some-edge_next.is)
 
-pub overflow_add-s-in-InRun : goal.overflow_add-s-in-InRun
-overflow_add-s-in-InRun c =
+pub returns-in-None-edge_next : goal.returns-in-None-edge_next
+unfolding component component_next
+returns-in-None-edge_next g c =
     let a = c.args in
-    let u = a.rx.now in
-    let v = a.ry.now in
-    let d = run_handy u v a.z c.requires.0 _ _ _ _ c.in-InRun.is in
-    omega (arith, d.0)
-
-pub then_runs-requires : goal.then_runs-requires
-then_runs-requires c =
-    let a = c.args in
-    let u = a.rx.now in
-    let v = a.ry.now in
-    let d = run_handy u v a.z c.requires.0 _ _ _ _ c.in-InRun.is in
-    (omega (arith, d.0), c.requires.3)
-
-pub gap_at-g-requires : goal.gap_at-g-requires
-gap_at-g-requires c =
-    let a = c.args in
-    let u = a.rx.now in
-    let v = a.ry.now in
-    let d = edge_handy u v a.z c.requires.0 _ _ _ c.in-InEdge.is in
-    omega (arith, d.0)
-
-pub edge_next-d-requires : goal.edge_next-d-requires
-edge_next-d-requires c =
-    let a = c.args in
-    let u = a.rx.now in
-    let v = a.ry.now in
-    let d = edge_handy u v a.z c.requires.0 _ _ _ c.in-InEdge.is in
-    (d.1, c.requires.1, c.requires.2)
-
-pub overflow_add-k : goal.overflow_add-k
-overflow_add-k c =
-    let a = c.args in
-    let u = a.rx.now in
-    let v = a.ry.now in
-    let d = edge_handy u v a.z c.requires.0 _ _ _ c.in-InEdge.is in
-    omega (arith, d.0)
-
-pub then_edges-requires : goal.then_edges-requires
-then_edges-requires c =
-    let a = c.args in
-    let u = a.rx.now in
-    let v = a.ry.now in
-    let d = edge_handy u v a.z c.requires.0 _ _ _ c.in-InEdge.is in
-    omega (arith, d.0)
-
-pub returns-in-InRun : goal.returns-in-InRun
-unfolding component
-returns-in-InRun c =
-    let a = c.args in
-    let u = a.rx.now in
-    let v = a.ry.now in
-    let P = row a.xs.now a.ys.now in
-    let h = lists a.qs.now a.cs.now a.pairs in
-    run_steps a.i P a.n u v a.z h a.y _ _ _ _ c.in-InRun.is c.last_pair-t.ensures (c.scan_next-d.ensures (grid a.i) (λ p. refl)) (c.run_end-e.ensures u v _ _) (c.then_runs.ensures u v)
-
-pub returns-in-InEdge : goal.returns-in-InEdge
-unfolding component
-returns-in-InEdge c =
-    let a = c.args in
-    let u = a.rx.now in
-    let v = a.ry.now in
-    let P = row a.xs.now a.ys.now in
-    let h = lists a.qs.now a.cs.now a.pairs in
-    let m = c.edge_next-d.new in
-    edge_steps a.i P a.n u v a.z h a.y _ _ _ c.in-InEdge.is (c.gap_at-g.ensures a.i a.n) (c.edge_next-d.ensures (edge a.i _) (λ p. refl)) (c.edge_end-e.ensures m.rx m.ry m.qs m.cs) (c.then_edges.ensures a.i a.n m.rx m.ry m.qs m.cs)
+    let P = points a.grid in
+    let k = c.in-InEdge.k in
+    let w = edge_of a.row.now.items c.in-InEdge.w in
+    let h = a.found.now.items in
+    step_from a.i P a.n a.row.now.items a.z (InEdge k c.in-InEdge.w) c.in-InEdge.is g.row.N h a.y
+    (part_over g.row.N (edge_of c.edge_next.new.row.items) (in_edge (a.n - suc k) k) h (edge_next (edge a.i k) (gap_at a.i P a.n k).inside w a.y) (edges_way a.i P a.n (a.n - suc k) (suc k)) _
+    (c.edge_next.ensures (edge a.i k) (λ p. refl) ∙ ap (λ (z : Gap). landed g.row.N h (edge_next (edge a.i k) z.inside w a.y)) (c.gap_at.ensures a.i a.n)) c.in-None-edge_next.is
+    (c.edges_way.ensures a.i c.edge_next.new.row.items g.row.N c.edge_next.new.found.items ∙ ap (λ (z : ℕ). landed g.row.N c.edge_next.new.found.items (edges_way a.i P a.n (a.n - z) z)) (add-one k)))

@@ -1,80 +1,49 @@
--- `step_component::component::runs_way` meets its contract. Assumes nothing.
-use mathlib.Core.Path.{◌≡◌, refl, sym, ◌∙◌, ap}
-use Prim.Native.Nat.{ℕ, ◌+◌, ◌-◌, ◌≤◌}
-use native.Mathlib.Omega.{arith}
-use Rattle.step_pairs.specs.Landed.{lists, landed}
-use Rattle.search_pairs.specs.State.{row}
-use Rattle.step_scan.specs.State.{now_of}
-use Rattle.search_definition.specs.Found.{grid, edge, component}
-use lib.ListN.{length}
-use Rattle.search_steps.specs.ComponentSteps.{runs_way}
-use Rattle.step_component.proofs.ComponentLaws.{runs_end, runs_pause, runs_go}
+use Rattle.std.proofs.Common.{◌≡◌, refl, ◌∙◌, ap, suc, ◌+◌, ◌-◌, ℕ, arith}
+use Rattle.search_definition.specs.Found.{component, grid}
+use Rattle.search_steps.specs.ScanSteps.{scan_way}
+use Rattle.search_steps.specs.ComponentSteps.{in_run, edges_way, runs_way}
+use Rattle.step_pairs.specs.Landed.{landed}
+use Rattle.step_pairs.proofs.LandedLaws.{part_asks, part_over}
+use Rattle.step_scan.specs.State.{points, scan_of}
+use Rattle.search_steps.specs.ScanSteps.{last_pair}
+use Rattle.step_component.proofs.ComponentLaws.{run_there, runs_past}
 use Rattle.step_component.proofs.component.runs_way.Goals as goal
 
-pub loop-left-init : goal.loop-left-init
-loop-left-init c = (refl, refl, refl, refl)
-
-pub run_length-m-requires : goal.run_length-m-requires
-run_length-m-requires c = omega (arith, c.loop-left.invariant.0, c.requires.0)
-
-pub last_run-requires : goal.last_run-requires
-last_run-requires c = (omega (arith, c.run_length-m.ensures.within, c.loop-left.invariant.0, c.requires.0), c.requires.1)
-
-pub shape_of-qs-then-m-left : goal.shape_of-qs-then-m-left
-shape_of-qs-then-m-left c = c.last_run.auto.qs ∙ c.loop-left.invariant.1
-
-pub shape_of-cs-then-m-left : goal.shape_of-cs-then-m-left
-shape_of-cs-then-m-left c = c.last_run.auto.cs ∙ c.loop-left.invariant.2
-
-pub returns-then-m-left : goal.returns-then-m-left
-returns-then-m-left c =
-    let a = c.args in
-    let g = c.loop-left in
-    let h = lists g.qs g.cs g.k in
-    λ u v. runs_end a.i a.xs.now a.ys.now a.n g.left g.s c.run_length-m.result h c.run_length-m.ensures c.if-m-left.true (c.last_run.ensures u v) ∙ g.invariant.3
-
-pub scan_way-d-requires : goal.scan_way-d-requires
-scan_way-d-requires c = omega (arith, c.run_length-m.ensures.within, c.loop-left.invariant.0, c.requires.0)
-
-pub overflow_sub-left : goal.overflow_sub-left
-overflow_sub-left c = omega (arith, c.run_length-m.ensures.within, c.loop-left.invariant.0, c.if-m-left.false, c.requires.0)
-
-pub overflow_sub-left-then-paused : goal.overflow_sub-left-then-paused
-overflow_sub-left-then-paused c = omega (arith, c.run_length-m.ensures.within, c.loop-left.invariant.0, c.if-m-left.false, c.requires.0)
-
-pub shape_of-qs-then-paused : goal.shape_of-qs-then-paused
-shape_of-qs-then-paused c = c.scan_way-d.auto.qs ∙ c.loop-left.invariant.1
-
-pub shape_of-cs-then-paused : goal.shape_of-cs-then-paused
-shape_of-cs-then-paused c = c.scan_way-d.auto.cs ∙ c.loop-left.invariant.2
-
-pub returns-then-paused : goal.returns-then-paused
+pub returns-in-Some : goal.returns-in-Some
 unfolding component
-returns-then-paused c =
+returns-in-Some g c =
     let a = c.args in
-    let g = c.loop-left in
-    let h = lists g.qs g.cs g.k in
-    λ u v. runs_pause a.i a.xs.now a.ys.now a.n g.left g.s c.run_length-m.result h c.run_length-m.ensures _ (now_of c.scan_way-d.result.now) (c.scan_way-d.ensures (grid a.i) (λ p. refl)) c.paused.ensures c.if-m-left.false c.if-paused.true (c.run_end.ensures u v _ _) ∙ g.invariant.3
+    let P = points a.grid in
+    let s = c.loop-s.s in
+    let m = c.run_length-m.result in
+    let h = c.loop-s.found.items in
+    λ r.
+    part_asks g.row.N (scan_of (last_pair s m)) (in_run (a.n - (s + m)) s m) h (scan_way (grid a.i) P s m) (runs_way a.i P a.n (suc a.n - (s + m + 1)) (s + m + 1) 0) _
+    (c.scan_way.ensures (grid a.i) (λ p. refl)) c.in-Some.is
+    ∙ run_there a.i P a.n s m c.run_length-m.ensures c.loop-s-test.true g.row.N h
+    ∙ c.loop-s.invariant
 
-pub overflow_sub-left-in-loop-left : goal.overflow_sub-left-in-loop-left
-overflow_sub-left-in-loop-left c = omega (arith, c.run_length-m.ensures.within, c.loop-left.invariant.0, c.if-m-left.false, c.requires.0)
-
-pub overflow_sub-left-in-loop-left-2 : goal.overflow_sub-left-in-loop-left-2
-overflow_sub-left-in-loop-left-2 c = omega (arith, c.run_length-m.ensures.within, c.loop-left.invariant.0, c.if-m-left.false, c.requires.0)
-
-pub overflow_add-s : goal.overflow_add-s
-overflow_add-s c = omega (arith, c.run_length-m.ensures.within, c.loop-left.invariant.0, c.if-m-left.false, c.requires.0)
-
-pub overflow_add-s-in-loop-left : goal.overflow_add-s-in-loop-left
-overflow_add-s-in-loop-left c = omega (arith, c.run_length-m.ensures.within, c.loop-left.invariant.0, c.if-m-left.false, c.requires.0)
-
-pub loop-left-smaller : goal.loop-left-smaller
-loop-left-smaller c = omega (arith, c.run_length-m.ensures.within, c.loop-left.invariant.0, c.if-m-left.false, c.requires.0)
-
-pub loop-left-preserved : goal.loop-left-preserved
+pub loop-s-preserved : goal.loop-s-preserved
 unfolding component
-loop-left-preserved c =
+loop-s-preserved g c =
     let a = c.args in
-    let g = c.loop-left in
-    let h = lists g.qs g.cs g.k in
-    (omega (arith, c.run_length-m.ensures.within, c.loop-left.invariant.0, c.if-m-left.false, c.requires.0), c.scan_way-d.auto.qs ∙ c.loop-left.invariant.1, c.scan_way-d.auto.cs ∙ c.loop-left.invariant.2, runs_go a.i a.xs.now a.ys.now a.n g.left g.s c.run_length-m.result h c.run_length-m.ensures _ (now_of c.scan_way-d.result.now) (c.scan_way-d.ensures (grid a.i) (λ p. refl)) c.paused.ensures c.if-m-left.false c.if-paused.false ∙ g.invariant.3)
+    let P = points a.grid in
+    let s = c.loop-s.s in
+    let m = c.run_length-m.result in
+    let h = c.loop-s.found.items in
+    part_over g.row.N (scan_of (last_pair s m)) (in_run (a.n - (s + m)) s m) h (scan_way (grid a.i) P s m) (runs_way a.i P a.n (suc a.n - (s + m + 1)) (s + m + 1) 0) _
+    (c.scan_way.ensures (grid a.i) (λ p. refl)) c.in_default.is refl
+    ∙ run_there a.i P a.n s m c.run_length-m.ensures c.loop-s-test.true g.row.N h
+    ∙ c.loop-s.invariant
+
+pub returns : goal.returns
+returns g c =
+    let a = c.args in
+    let P = points a.grid in
+    let h = c.loop-s.found.items in
+    let z : a.n - 0 ≡ a.n = omega arith in
+    λ r.
+    c.edges_way.ensures a.i r g.row.N h
+    ∙ ap (λ (k : ℕ). landed g.row.N h (edges_way a.i P a.n k 0)) z
+    ∙ runs_past a.i P a.n c.loop-s.s g.row.N h (omega (arith, c.loop-s-test.false))
+    ∙ c.loop-s.invariant

@@ -1,35 +1,13 @@
--- `step_component::grid::run_length` meets its contract. Assumes nothing.
-use mathlib.Core.Path.{◌≡◌, refl, sym, ◌∙◌, ap}
-use Prim.Native.Nat.{ℕ, ◌+◌, ◌-◌, ◌≤◌}
-use native.Mathlib.Omega.{arith}
-use mathlib.Core.List.{List}
-use lib.Ieee.{Float}
-use Rattle.search_pairs.specs.State.{row}
-use Rattle.search_steps.specs.ComponentSteps.{runs_way}
-use borrow.Author.Tests.{not-true, not-false}
-use Rattle.step_component.proofs.ComponentLaws.{run_goes, run_stops, run_whole, run_begins}
-use borrow.Author.Rules.{rules}
+use Rattle.std.proofs.Common.{◌≡◌, suc, ◌+◌, ◌-◌, ◌<◌, arith}
+use Rattle.step_scan.specs.State.{points}
+use Rattle.step_component.proofs.ComponentLaws.{run_goes}
 use Rattle.step_component.proofs.grid.run_length.Goals as goal
 
-pub loop-m-init : goal.loop-m-init
-loop-m-init c =
-    let a = c.args in
-    (omega arith, run_begins a.ys.now a.c a.l)
-
-pub returns-then-not-f : goal.returns-then-not-f
-returns-then-not-f c =
-    let a = c.args in
-    let g = c.loop-m in
-    run_stops a.ys.now a.c a.l g.m g.invariant.1 c.loop-m-test.true c.number-y.ensures c.is_finite-f.ensures c.if-not-f.true
-
-pub loop-m-preserved : goal.loop-m-preserved
-loop-m-preserved c =
-    let a = c.args in
-    let g = c.loop-m in
-    (omega arith, run_goes a.ys.now a.c a.l g.m g.invariant.1 c.loop-m-test.true c.number-y.ensures c.is_finite-f.ensures c.if-not-f.false)
-
-pub returns : goal.returns
-returns c =
-    let a = c.args in
-    let g = c.loop-m in
-    run_whole a.ys.now a.c a.l g.m g.invariant.1 g.invariant.0 (omega (arith, c.loop-m-test.false))
+pub loop-at-preserved : goal.loop-at-preserved
+loop-at-preserved c =
+    let l = c.args.from in
+    let at = c.loop-at.at in
+    let a : l + (at - l) ≡ at = omega (arith, c.loop-at.auto.at) in
+    let b : at - l < suc c.args.n - l = omega (arith, c.loop-at-test.true, c.loop-at.auto.at) in
+    let k : at + 1 - l ≡ at - l + 1 = omega (arith, c.loop-at.auto.at) in
+    run_goes (points c.args.grid) (suc c.args.n - l) l (at - l) at c.loop-at.invariant a b c.at-p.ensures c.is_finite.ensures (at + 1 - l) k c.if-not-is_finite.false

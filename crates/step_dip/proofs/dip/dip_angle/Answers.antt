@@ -1,6 +1,6 @@
 -- `step_dip::dip::dip_angle` meets its contract. Assumes nothing.
 use Rattle.step_dip.proofs.DipLaws.{angle_from}
-use Rattle.step_dip.specs.State.{point_of}
+use Rattle.step_refine.specs.State.{point_of}
 use Rattle.search_steps.specs.DipSteps.{dip_angle}
 use Rattle.search_steps.specs.RefineSteps.{refine_angle}
 use Rattle.step_dip.proofs.dip.dip_angle.Goals as goal

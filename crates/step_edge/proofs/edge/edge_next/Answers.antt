@@ -1,36 +1,25 @@
--- `step_edge::edge::edge_next` meets its contract. Assumes nothing.
-use native.Mathlib.Omega.{arith}
-use Rattle.step_pairs.specs.Landed.{lists}
-use Rattle.step_dip.specs.State.{point_of}
-use Rattle.step_edge.proofs.EdgeLaws.{next_from, halving_steps, taking_fits, row_fits}
+use Rattle.std.proofs.Common.{◌≡◌, rules}
+use Rattle.std.specs.Option.{option_map}
+use Rattle.step_refine.specs.State.{point_of}
+use Rattle.step_edge.specs.State.{gap_of}
+use Rattle.step_edge.specs.declared.edge.Edge.TheVariants.{Halving, InRow}
+use Rattle.step_edge.proofs.EdgeLaws.{step_from, halving_steps, row_steps}
 use Rattle.step_edge.proofs.edge.edge_next.Goals as goal
 
-pub take_next-requires : goal.take_next-requires
-take_next-requires c =
-    let a = c.args in
-    let f = taking_fits a.rx.now a.ry.now a.z c.requires.0 _ _ _ c.in-Taking.is in
-    (f.0, f.1, c.requires.1, c.requires.2)
-
-pub row_next-requires : goal.row_next-requires
-row_next-requires c =
-    let a = c.args in
-    let f = row_fits a.rx.now a.ry.now a.z c.requires.0 _ _ c.in-InRow.is in
-    (f, omega (arith, f.0, c.requires.1), omega (arith, f.0, c.requires.2))
-
 pub returns-in-Halving : goal.returns-in-Halving
-returns-in-Halving c =
-    let a = c.args in
-    let h = lists a.qs.now a.cs.now a.pairs in
-    λ o e. halving_steps o (point_of a.p) a.rx.now a.ry.now a.z h a.y _ _ c.in-Halving.is c.mid-x.ensures c.halved-h.ensures (c.halve_way.ensures o (point_of a.p) _ _)
-
-pub returns-in-Taking : goal.returns-in-Taking
-returns-in-Taking c =
-    let a = c.args in
-    let h = lists a.qs.now a.cs.now a.pairs in
-    λ o e. next_from o (point_of a.p) a.rx.now a.ry.now a.z h a.y _ c.in-Taking.is (c.take_next.ensures o e)
+returns-in-Halving g c =
+    let p = point_of c.args.p in
+    let h = c.args.found.now.items in
+    λ o i.
+    step_from o p c.args.row.now.items c.args.z (Halving c.in-Halving.k c.in-Halving.g) c.in-Halving.is g.row.N h c.args.y
+    (halving_steps g.row.N o h p c.in-Halving.k (gap_of c.in-Halving.g) c.args.y c.mid.ensures c.halved.ensures (c.halve_way.ensures o p g.row.N h))
 
 pub returns-in-InRow : goal.returns-in-InRow
-returns-in-InRow c =
-    let a = c.args in
-    let h = lists a.qs.now a.cs.now a.pairs in
-    λ o e. next_from o (point_of a.p) a.rx.now a.ry.now a.z h a.y _ c.in-InRow.is (c.row_next.ensures o e (point_of a.p))
+returns-in-InRow g c =
+    let p = point_of c.args.p in
+    let r = c.args.row.now.items in
+    let h = c.args.found.now.items in
+    let m : c.map.result ≡ option_map InRow c.scan_next.result = search rules in
+    λ o i.
+    step_from o p r c.args.z (InRow c.in-InRow.s) c.in-InRow.is g.row.N h c.args.y
+    (row_steps r c.as_slice.result.now c.whole-run.result.from c.whole-run.result.count c.as_slice.ensures.value c.whole-run.ensures.from c.whole-run.ensures.count g.row.N o p h c.scan_next.new.found.items c.scan_next.result c.map.result m c.in-InRow.s c.args.y (c.scan_next.ensures o i))

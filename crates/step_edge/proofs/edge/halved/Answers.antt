@@ -1,6 +1,5 @@
--- `step_edge::edge::halved` meets its contract. Assumes nothing.
-use Rattle.step_edge.proofs.EdgeLaws.{halved_in, halved_out}
 use Rattle.step_edge.specs.State.{gap_of}
+use Rattle.step_edge.proofs.EdgeLaws.{halved_in, halved_out}
 use Rattle.step_edge.proofs.edge.halved.Goals as goal
 
 pub returns-then-is_finite : goal.returns-then-is_finite

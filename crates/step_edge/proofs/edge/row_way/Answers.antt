@@ -1,19 +1,12 @@
--- `step_edge::edge::row_way` meets its contract. Assumes nothing.
-use Rattle.step_pairs.specs.Landed.{lists}
-use Rattle.step_edge.proofs.RowLaws.{part}
+use Rattle.std.proofs.Common.{◌≡◌, rules}
+use Rattle.std.specs.Option.{option_map}
+use Rattle.step_edge.specs.declared.edge.Edge.TheVariants.{InRow}
 use Rattle.step_edge.proofs.EdgeLaws.{row_scans}
 use Rattle.step_edge.proofs.edge.row_way.Goals as goal
 
-pub slice_bounds-scan_way-end : goal.slice_bounds-scan_way-end
-slice_bounds-scan_way-end c = search part
-
-pub slice_bounds-scan_way-end-2 : goal.slice_bounds-scan_way-end-2
-slice_bounds-scan_way-end-2 c = search part
-
 pub returns : goal.returns
-returns c =
-    let a = c.args in
-    let u = a.rx.now in
-    let v = a.ry.now in
-    let h = lists a.qs.now a.cs.now a.pairs in
-    λ o e p. row_scans o p u v a.m c.requires.1 c.requires.2 h (c.scan_way-s.ensures o e) (c.row_end.ensures u v _ _)
+returns g c =
+    let m : c.map.result ≡ option_map InRow c.scan_way.result = search rules in
+    λ o i p.
+    row_scans c.args.row.now.items c.as_slice.result.now c.whole.result.from c.whole.result.count c.as_slice.ensures.value c.whole.ensures.from c.whole.ensures.count g.row.N o p c.args.found.now.items c.scan_way.new.found.items c.scan_way.result c.map.result m
+    (c.scan_way.ensures o i)

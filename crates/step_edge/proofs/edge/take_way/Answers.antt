@@ -1,23 +1,20 @@
--- `step_edge::edge::take_way` meets its contract. Assumes nothing.
-use Rattle.step_pairs.specs.Landed.{lists}
-use Rattle.search_pairs.specs.State.{row, firsts}
-use Rattle.step_dip.specs.State.{point_of}
-use Rattle.step_edge.specs.State.{behind}
+use Rattle.std.proofs.Common.{◌∙◌, ap, List, map}
+use Rattle.search_definition.specs.Dip.{Point}
+use Rattle.search_steps.specs.EdgeSteps.{row_way}
+use Rattle.step_refine.specs.State.{point_of}
+use Rattle.step_pairs.specs.Landed.{landed}
 use Rattle.step_edge.proofs.EdgeLaws.{takes_none, takes_on}
 use Rattle.step_edge.proofs.edge.take_way.Goals as goal
 
-pub returns-then-c-eq0 : goal.returns-then-c-eq0
-returns-then-c-eq0 c =
+pub returns-then-j-lt8 : goal.returns-then-j-lt8
+returns-then-j-lt8 g c =
     let a = c.args in
-    let u = a.rx.now in
-    let v = a.ry.now in
-    let h = lists a.qs.now a.cs.now a.pairs in
-    λ o e. takes_none o h (point_of a.p) (row u v 0) a.c a.j (firsts (behind (row u v)) a.m) c.if-c-eq0.true c.number-lo.ensures c.close_row.ensures c.order_row.ensures (c.row_way.ensures o e (point_of a.p))
+    λ o i. takes_on g.row.N o a.found.now.items (point_of a.p) (point_of a.e) a.j (map point_of a.row.now.items) c.if-j-lt8.true
 
 pub returns : goal.returns
-returns c =
+returns g c =
     let a = c.args in
-    let u = a.rx.now in
-    let v = a.ry.now in
-    let h = lists a.qs.now a.cs.now a.pairs in
-    λ o e. takes_on o h (point_of a.p) (row u v 0) a.c a.j (firsts (behind (row u v)) a.m) c.if-c-eq0.false
+    let p = point_of a.p in
+    λ o i.
+    takes_none g.row.N o a.found.now.items p (point_of a.e) a.j (map point_of a.row.now.items) c.if-j-lt8.false
+    (c.row_way.ensures o i p ∙ ap (λ (l : List Point). landed g.row.N a.found.now.items (row_way o p l)) c.close_row.ensures)

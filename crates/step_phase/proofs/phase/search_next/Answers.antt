@@ -1,32 +1,28 @@
--- `step_phase::phase::search_next` meets its contract. Assumes nothing.
-use mathlib.Core.Path.{sym, ◌∙◌}
-use Prim.Native.Nat.{◌-◌}
+use Rattle.std.proofs.Common.{◌≡◌, ◌∙◌, suc, ◌+◌, ◌-◌, ◌≤◌, ◌⊎◌, inl, inr, arith}
+use Rattle.std.proofs.lemmas.Bool.{cases_lt}
 use Rattle.search_steps.specs.ComponentSteps.{component_next}
-use Rattle.search_steps.specs.Steps.{taken_at}
-use Rattle.step_pairs.specs.Landed.{lists}
-use Rattle.step_component.specs.State.{component_of, now_of}
-use Rattle.step_component.proofs.ComponentLaws.{pauses_is}
-use Rattle.step_phase.specs.State.{samples_of}
-use Rattle.step_phase.proofs.PhaseLaws.{step_pauses, step_goes, components_next}
-use borrow.Author.Rules.{rules}
+use Rattle.search_steps.specs.Steps.{taken_at, searching, components_way}
+use Rattle.step_pairs.proofs.LandedLaws.{part_asks, part_over}
+use Rattle.step_scan.specs.State.{samples_of}
+use Rattle.step_component.specs.State.{component_of}
+use Rattle.step_phase.proofs.PhaseLaws.{others}
 use Rattle.step_phase.proofs.phase.search_next.Goals as goal
 
-pub returns-then-paused : goal.returns-then-paused
-returns-then-paused c =
+pub returns-in-Some : goal.returns-in-Some
+returns-in-Some g c =
     let a = c.args in
-    let S = samples_of a.xs.now a.y0.now a.y1.now a.y2.now a.y3.now in
-    let h = lists a.qs.now a.cs.now a.pairs in
-    let d = c.one_next-d in
-    let u = d.new.rx in
-    let v = d.new.ry in
-    step_pauses a.n S (3 - a.i) a.i h (component_next a.i (taken_at S a.i) a.n (component_of a.rx.now a.ry.now a.z) a.y) _ (now_of u v d.result.now) d.ensures (c.paused.ensures ∙ sym (pauses_is u v d.result.now)) c.if-paused.true (c.component_end.ensures u v _ _)
+    let S = samples_of a.samples.now in
+    let i = a.p.i in
+    let z = component_of a.n a.row.now.items a.p.at in
+    part_asks g.row.N (component_of a.n c.component_next.new.row.items) (searching (3 - i) i) a.found.now.items (component_next i (taken_at S i) a.n z a.y) (components_way a.n S (3 - i) (suc i)) _ c.component_next.ensures c.in-Some.is
 
-pub returns : goal.returns
-returns c =
+pub returns-in-None : goal.returns-in-None
+returns-in-None g c =
     let a = c.args in
-    let S = samples_of a.xs.now a.y0.now a.y1.now a.y2.now a.y3.now in
-    let h = lists a.qs.now a.cs.now a.pairs in
-    let d = c.one_next-d in
-    let u = d.new.rx in
-    let v = d.new.ry in
-    step_goes a.n S (3 - a.i) a.i h (component_next a.i (taken_at S a.i) a.n (component_of a.rx.now a.ry.now a.z) a.y) _ (now_of u v d.result.now) d.ensures (c.paused.ensures ∙ sym (pauses_is u v d.result.now)) c.if-paused.false (c.components_way.ensures u v ∙ components_next a.n S _ a.i c.requires.0)
+    let S = samples_of a.samples.now in
+    let i = a.p.i in
+    let j = c.saturating_add.result in
+    let z = component_of a.n a.row.now.items a.p.at in
+    let b : (j ≡ i + 1) ⊎ (4 ≤ j) × (4 ≤ i) = elim (cases_lt i 255) [ inl l ↦ inl (omega (arith, c.saturating_add.ensures)) | inr l ↦ inr (omega (arith, c.saturating_add.ensures), omega arith) ] in
+    part_over g.row.N (component_of a.n c.component_next.new.row.items) (searching (3 - i) i) a.found.now.items (component_next i (taken_at S i) a.n z a.y) (components_way a.n S (3 - i) (suc i)) _ c.component_next.ensures c.in-None.is
+    (c.components_way.ensures c.component_next.new.row.items ∙ others a.n g.row.N c.component_next.new.found.items S i j b)

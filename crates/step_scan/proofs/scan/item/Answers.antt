@@ -1,39 +1,45 @@
--- `step_scan::scan::item` meets its contract. Assumes nothing.
-use Rattle.step_pairs.specs.Landed.{lists}
-use Rattle.search_pairs.specs.State.{row}
-use Rattle.step_scan.proofs.ScanLaws.{item_crosses, item_ends, item_dips, item_none}
+use Rattle.std.proofs.Common.{◌≡◌, refl, ◌∙◌, ap, ◌<◌, ◌-◌, arith, rules}
+use Rattle.std.specs.Option.{option_map}
 use Rattle.search_definition.specs.Found.{crossing}
 use Rattle.search_definition.specs.Scan.{alike, crosses, dips}
+use Rattle.search_steps.specs.RefineSteps.{refine_start}
+use Rattle.search_steps.specs.ScanSteps.{at_crossing}
+use Rattle.step_refine.specs.State.{point_of, refining_of}
+use Rattle.step_pairs.specs.Landed.{landed}
+use Rattle.step_pairs.proofs.LandedLaws.{part_ends}
+use Rattle.step_scan.specs.State.{points, scan_of}
+use Rattle.step_scan.specs.declared.scan.Scan.TheVariants.{Crossing}
+use Rattle.step_scan.proofs.ScanLaws.{item_crosses, item_ends, item_dips, item_none}
 use Rattle.step_scan.proofs.scan.item.Goals as goal
 
 pub returns-then-crosses : goal.returns-then-crosses
 unfolding crosses alike
-returns-then-crosses c =
+returns-then-crosses g c =
     let a = c.args in
-    let h = lists a.qs.now a.cs.now a.pairs in
-    let P = row a.xs.now a.ys.now in
-    λ o e s t. item_crosses o h P s t a.c a.l c.sample-p.ensures c.sample-q.ensures c.start-w.result c.crosses.ensures c.if-crosses.true (c.start-w.ensures (o (crossing a.l))) (c.crossing_end.ensures (o (crossing a.l)) (e (crossing a.l)))
-
-pub returns-then-c-eq0 : goal.returns-then-c-eq0
-unfolding crosses alike
-returns-then-c-eq0 c =
-    let a = c.args in
-    let h = lists a.qs.now a.cs.now a.pairs in
-    let P = row a.xs.now a.ys.now in
-    λ o e s t. item_ends o h P s t a.c a.l c.sample-p.ensures c.sample-q.ensures c.crosses.ensures c.if-crosses.false c.if-c-eq0.true
+    let h = a.found.now.items in
+    let d : c.map.result ≡ option_map (Crossing a.l) c.refined.result = search rules in
+    λ o e s.
+    item_crosses g.row.N o h (points a.row) s a.t (a.t - a.l) a.l c.at-p.ensures c.behind-q.ensures c.crosses.ensures c.if-crosses.true
+    (part_ends g.row.N refining_of (scan_of a.t) (Crossing a.l) (at_crossing (a.t - a.l) a.l) h _ (refine_start (o (crossing a.l)) (point_of c.at-p.result) (point_of c.behind-q.result)) (λ _. refl) c.refined.result _
+    (c.refined.ensures (o (crossing a.l)) (e (crossing a.l)) ∙ ap (landed g.row.N h) (c.start.ensures (o (crossing a.l)))) d)
 
 pub returns-then-dips : goal.returns-then-dips
 unfolding crosses dips alike
-returns-then-dips c =
+returns-then-dips g c =
     let a = c.args in
-    let h = lists a.qs.now a.cs.now a.pairs in
-    let P = row a.xs.now a.ys.now in
-    λ o e s t. item_dips o h P s t a.c a.l c.sample-p.ensures c.sample-q.ensures c.crosses.ensures c.if-crosses.false c.if-c-eq0.false c.sample-r.ensures c.dips.ensures c.if-dips.true
+    let m : 0 < a.t - a.l = omega (arith, c.if-l-t.true) in
+    λ o e s. item_dips g.row.N o a.found.now.items (points a.row) s a.t (a.t - a.l) a.l c.at-p.ensures c.behind-q.ensures c.crosses.ensures c.if-crosses.false m c.behind-r.ensures c.dips.ensures c.if-dips.true
 
-pub returns : goal.returns
+pub returns-else-dips : goal.returns-else-dips
 unfolding crosses dips alike
-returns c =
+returns-else-dips g c =
     let a = c.args in
-    let h = lists a.qs.now a.cs.now a.pairs in
-    let P = row a.xs.now a.ys.now in
-    λ o e s t. item_none o h P s t a.c a.l c.sample-p.ensures c.sample-q.ensures c.crosses.ensures c.if-crosses.false c.if-c-eq0.false c.sample-r.ensures c.dips.ensures c.if-dips.false
+    let m : 0 < a.t - a.l = omega (arith, c.if-l-t.true) in
+    λ o e s. item_none g.row.N o a.found.now.items (points a.row) s a.t (a.t - a.l) a.l c.at-p.ensures c.behind-q.ensures c.crosses.ensures c.if-crosses.false m c.behind-r.ensures c.dips.ensures c.if-dips.false
+
+pub returns-else-l-t : goal.returns-else-l-t
+unfolding crosses alike
+returns-else-l-t g c =
+    let a = c.args in
+    let m : a.t - a.l ≡ 0 = omega (arith, c.if-l-t.false) in
+    λ o e s. item_ends g.row.N o a.found.now.items (points a.row) s a.t (a.t - a.l) a.l c.at-p.ensures c.behind-q.ensures c.crosses.ensures c.if-crosses.false m
