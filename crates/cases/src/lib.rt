@@ -4,9 +4,11 @@
 // each id, the cases and those whose result is another.
 #![tactic(auto)]
 
+mod records;
 mod results;
 mod tally;
 
+pub use records::{report, run};
 pub use results::{agree, argument, gives, same};
-pub use tally::{count, end, line, next};
+pub use tally::{Counts, Tally, count, end, line, next, no_cases};
 pub use words::{numbers, pattern, word};

@@ -10,10 +10,7 @@ use words::{is_nan, number, pattern, word};
 pub fn same(a: u64, b: u64) -> bool
     ensures { result ≡ same a b }
 {
-    if a == b {
-        return true;
-    }
-    if is_nan(a) { is_nan(b) } else { false }
+    a == b || is_nan(a) && is_nan(b)
 }
 
 // Word i of a record as an argument.
@@ -37,12 +34,10 @@ pub fn agree(bytes: &[u8], i: usize, results: &[u64]) -> bool
     requires { 8 * (i + length results.now) ≤ length bytes.now }
     ensures { result ≡ agree bytes.now i (length results.now) 0 results.now }
 {
-    let mut k: usize = 0;
-    while k < results.len() {
-        if !same(word(bytes, i + k), results[k]) {
+    for (k, result) in results.iter().enumerate() {
+        if !same(word(bytes, i + k), *result) {
             return false;
         }
-        k += 1;
     }
     true
 }

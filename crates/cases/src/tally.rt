@@ -1,7 +1,7 @@
-// The counts: 32 of cases and then 32 of mismatches (specs/Tally.antt).
+// The counts of cases and of mismatches (specs/Tally.antt).
 ghost use Rattle.std.specs.Prelude.{◌≡◌, ◌<◌, ◌≤◌, true, length, take};
 ghost use Rattle.std.specs.Io.KnownBytes.{Consumes};
-ghost use Rattle.cases.specs.Tally.{bumped, noted, noted_twice, counted, Read};
+ghost use Rattle.cases.specs.Tally.{more, noted, noted_twice, counted, Read};
 
 use std::io;
 use std::io::{Print, Read};
@@ -10,25 +10,43 @@ const UNKNOWN: usize = 30;
 
 const TOTAL: usize = 31;
 
-fn bump(tally: &mut [u64; 64], at: usize)
-    requires { at < 64 }
-    ensures { tally.new ≡ bumped tally.old at }
-{
-    tally[at] = tally[at].wrapping_add(1);
+// How many cases there were, and how many of them were mismatches.
+#[derive(Clone, Copy)]
+pub struct Counts {
+    pub cases: u64,
+    pub mismatches: u64,
 }
 
-fn note(tally: &mut [u64; 64], entry: usize, ok: bool)
+// The counts of each function, of what is no case of one, and of all.
+pub type Tally = [Counts; 32];
+
+// Before the first case.
+pub fn no_cases() -> Tally {
+    [Counts {
+        cases: 0,
+        mismatches: 0,
+    }; 32]
+}
+
+impl Counts {
+    fn note(&mut self, ok: bool)
+        ensures { self.new ≡ more self.old ok }
+    {
+        self.cases = self.cases.wrapping_add(1);
+        if !ok {
+            self.mismatches = self.mismatches.wrapping_add(1);
+        }
+    }
+}
+
+fn note(tally: &mut Tally, entry: usize, ok: bool)
     requires { entry < 32 }
     ensures { tally.new ≡ noted tally.old entry ok }
 {
-    bump(tally, entry);
-    if ok {
-        return;
-    }
-    bump(tally, entry + 32);
+    tally[entry].note(ok);
 }
 
-fn note_twice(tally: &mut [u64; 64], entry: usize, ok: bool)
+fn note_twice(tally: &mut Tally, entry: usize, ok: bool)
     requires { entry < 31 }
     ensures { tally.new ≡ noted_twice tally.old entry ok }
 {
@@ -38,7 +56,7 @@ fn note_twice(tally: &mut [u64; 64], entry: usize, ok: bool)
 
 // Counts a case of the function id, right or not, where the group has n functions. An id that none
 // of them has is a mismatch.
-pub fn count(tally: &mut [u64; 64], n: u64, id: u64, ok: bool)
+pub fn count(tally: &mut Tally, n: u64, id: u64, ok: bool)
     requires { n ≤ 30 }
     ensures { tally.new ≡ counted tally.old n id ok }
 {
@@ -50,7 +68,8 @@ pub fn count(tally: &mut [u64; 64], n: u64, id: u64, ok: bool)
 }
 
 // Reads until the record is full, the input ends or a read fails, and returns how many bytes there
-// are at its start: these, and no others, were read.
+// are at its start: these, and no others, were read. (The contract of std's `read_exact` says little
+// of a record that is not whole.)
 fn read_full<I: Read>(input: &mut I, bytes: &mut [u8]) -> usize
     ensures result_in_bounds { result ≤ length bytes.new }
     ensures consumed { Consumes (I.remaining input.old) (I.remaining input.new) (take result bytes.new) }
@@ -67,7 +86,7 @@ fn read_full<I: Read>(input: &mut I, bytes: &mut [u8]) -> usize
 
 // Reads the next record, and answers whether there is a whole one, which is then what was read. A
 // part of one at the end is a mismatch.
-pub fn next<I: Read>(input: &mut I, bytes: &mut [u8], tally: &mut [u64; 64]) -> bool
+pub fn next<I: Read>(input: &mut I, bytes: &mut [u8], tally: &mut Tally) -> bool
     ensures counts { Read result tally.old tally.new }
     ensures whole { result ≡ true → Consumes (I.remaining input.old) (I.remaining input.new) bytes.new }
 {
@@ -82,20 +101,19 @@ pub fn next<I: Read>(input: &mut I, bytes: &mut [u8], tally: &mut [u64; 64]) -> 
     false
 }
 
-// Writes the line of an entry: NAME cases C mismatches M.
-pub fn line<O: Print>(out: &O, name: &[u8], tally: &[u64; 64], entry: usize) -> io::Result<()>
+// Writes the line of an entry.
+pub fn line<O: Print>(out: &O, name: &str, tally: &Tally, entry: usize) -> io::Result<()>
     requires { entry < 32 }
 {
-    out.write_all(name)?;
-    let cases = tally[entry];
-    let mismatches = tally[entry + 32];
-    println!(out; " cases {cases} mismatches {mismatches}")
+    let cases = tally[entry].cases;
+    let mismatches = tally[entry].mismatches;
+    println!(out; "{name} cases {cases} mismatches {mismatches}")
 }
 
 // Writes the last lines: what was no case of a function, if anything, and the total.
-pub fn end<O: Print>(out: &O, tally: &[u64; 64]) -> io::Result<()> {
-    if tally[UNKNOWN] > 0 {
-        line(out, b"unknown", tally, UNKNOWN)?;
+pub fn end<O: Print>(out: &O, tally: &Tally) -> io::Result<()> {
+    if tally[UNKNOWN].cases > 0 {
+        line(out, "unknown", tally, UNKNOWN)?;
     }
-    line(out, b"total", tally, TOTAL)
+    line(out, "total", tally, TOTAL)
 }

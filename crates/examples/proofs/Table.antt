@@ -1,10 +1,9 @@
 -- Every row of the table, by computing the definitions. Assumes nothing.
 use mathlib.Core.Path.{◌≡◌, refl}
-use mathlib.Core.List.{List, [], ◌∷◌}
+use mathlib.Core.List.{[], ◌∷◌}
 use mathlib.Core.Bool.{true, false}
-use Prim.Native.Nat.{ℕ}
 use borrow.Author.Tests.{eq-eqb}
-use lib.IntN.{pos, negsuc}
+use lib.IntN.{negsuc}
 use lib.Ieee.{binary64, add, sub, mul, div, neg, rem, lt, eq, is_nan, of_int, of_bits, to_bits}
 use lib.ListN.{length}
 use Rattle.float.specs.Num.{int_as_f64, nought, two, pi, frac_pi_2}
@@ -16,9 +15,8 @@ use Rattle.complex.specs.Complex.{◌+ᶜ◌, ◌-ᶜ◌, ◌*ᶜ◌, ◌/ᶜ◌
 use Rattle.polynomial.specs.Convolution.{vec_self_convolve_2, vec_self_convolve_3, vec_convolve_3}
 use Rattle.polynomial.specs.Triangular.{solve_lower_triangular_system_2x2}
 use Rattle.polynomial.specs.Quadratic.{solve_quadratic_roots}
-use Rattle.polynomial.specs.Roots.{roots}
 use Rattle.linear.specs.Vector.{norm}
-use Rattle.solutionset.specs.declared.SolutionSet2.TheVariants.{One, Two}
+use Rattle.solutionset.specs.declared.set2.SolutionSet2.TheVariants.{One, Two}
 use Rattle.subproblems.specs.Subproblem1.{subproblem1}
 use Rattle.subproblems.specs.Subproblem4.{subproblem4}
 use Rattle.refusals.specs.Judge.{judge}
@@ -41,12 +39,12 @@ unfolding solve_lower_triangular_system_2x2 sub mul div of_int
 lower_triangular = refl
 
 quadratic_two_one :
-    roots (solve_quadratic_roots (quadratic (num 1) (int_as_f64 (negsuc 2)) (num 2)))
+    solve_quadratic_roots (quadratic (num 1) (int_as_f64 (negsuc 2)) (num 2))
     ≡ record { re = num 2; im = neg nought } ∷ record { re = num 1; im = nought } ∷ []
 unfolding solve_quadratic_roots ◌+ᶜ◌ ◌-ᶜ◌ ◌*ᶜ◌ ◌/ᶜ◌ negᶜ scaleᶜ absᶜ sqrtᶜ sqrt sin cos atan2 add sub mul div neg rem lt eq is_nan of_int of_bits
 quadratic_two_one = refl
 
-quadratic_none : roots (solve_quadratic_roots (quadratic nought nought (num 5))) ≡ []
+quadratic_none : solve_quadratic_roots (quadratic nought nought (num 5)) ≡ []
 unfolding solve_quadratic_roots absᶜ sqrt add mul div lt eq is_nan of_int of_bits
 quadratic_none = refl
 

@@ -1,5 +1,5 @@
 -- Document 01, "Known results, marked for proof": one table, a row for each result. A row speaks of the definitions that the functions are proved equal to.
-use Rattle.std.specs.Prelude.{◌≡◌, List, [], ◌∷◌, true, false, ℕ, ℤ, pos, negsuc, Float, length}
+use Rattle.std.specs.Prelude.{◌≡◌, List, [], ◌∷◌, true, false, ℕ, negsuc, Float, length}
 use Rattle.std.specs.Float.{binary64}
 use Rattle.std.specs.Float.Ieee.{neg, to_bits}
 use Rattle.float.specs.Num.{as_f64, int_as_f64, nought, two, pi, frac_pi_2}
@@ -10,16 +10,13 @@ use Rattle.complex.specs.declared.Complex.{Complex}
 use Rattle.polynomial.specs.Convolution.{vec_self_convolve_2, vec_self_convolve_3, vec_convolve_3}
 use Rattle.polynomial.specs.Triangular.{solve_lower_triangular_system_2x2}
 use Rattle.polynomial.specs.Quadratic.{solve_quadratic_roots}
-use Rattle.polynomial.specs.Roots.{roots}
 use Rattle.polynomial.specs.declared.Vector2.{Vector2}
 use Rattle.polynomial.specs.declared.Vector5.{Vector5}
 use Rattle.polynomial.specs.declared.Matrix2.{Matrix2}
 use Rattle.polynomial.specs.declared.Quadratic.{Quadratic}
-use Rattle.solutionset.specs.declared.SolutionSet2.TheVariants.{One, Two}
+use Rattle.solutionset.specs.declared.set2.SolutionSet2.TheVariants.{One, Two}
 use Rattle.subproblems.specs.Subproblem1.{subproblem1}
 use Rattle.subproblems.specs.Subproblem4.{subproblem4}
-use Rattle.subproblems.specs.declared.Solved1.{Solved1}
-use Rattle.subproblems.specs.declared.Solved2.{Solved2}
 use Rattle.refusals.specs.Judge.{all_finite, judge}
 
 -- ---- short names for the numbers of the table
@@ -76,10 +73,10 @@ pub record KnownResults : Type 0 where
   pub lower_triangular : solve_lower_triangular_system_2x2 (matrix_2 2 0 1 4) (vector_2 6 11) ≡ vector_2 3 2
   -- "Quadratic 1, -3, 2: roots 2, 1": these are the real parts; the imaginary parts come out as -0.0 and 0.0
   pub quadratic_two_one :
-      roots (solve_quadratic_roots (quadratic (num 1) (int_as_f64 (negsuc 2)) (num 2)))
+      solve_quadratic_roots (quadratic (num 1) (int_as_f64 (negsuc 2)) (num 2))
       ≡ record { re = num 2; im = neg nought } ∷ record { re = num 1; im = nought } ∷ []
   -- "0, 0, 5: none."
-  pub quadratic_none : roots (solve_quadratic_roots (quadratic nought nought (num 5))) ≡ []
+  pub quadratic_none : solve_quadratic_roots (quadratic nought nought (num 5)) ≡ []
   -- "The two wrap_to_pi at PI: -PI (auxiliary), PI (inverse)."
   pub auxiliary_wrap_to_pi_at_pi : wrap_to_pi pi ≡ neg pi
   pub inverse_wrap_to_pi_at_pi : inverse_wrap_to_pi pi ≡ pi

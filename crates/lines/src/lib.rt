@@ -1,60 +1,70 @@
 // The lines of a block as bytes, made from the block, its place and the limits in force.
 #![tactic(auto)]
 
-ghost use Rattle.std.specs.Prelude.{◌≡◌, ◌≤◌, length};
-ghost use Rattle.text.specs.Text.{Put};
+ghost use Rattle.std.specs.Prelude.{◌≡◌, []};
 ghost use Rattle.lines.specs.Lines.{pose_lines, limits_lines, lines};
 
+use arrayvec::ArrayVec;
+use refusals::number_of;
 use solve_block::solve_block;
 pub use text::Buffer;
 use text::{head, lines_of, shown};
 
+// Room for the answers of a block, six angles and a flag each, and for its lines.
+#[derive(Drop)]
+pub struct Space {
+    pub angles: [f64; 6144],
+    pub flags: [u8; 1024],
+    pub out: Buffer,
+}
+
+impl Space {
+    pub fn new() -> Space
+        ensures { result.out.items ≡ [] }
+    {
+        Space {
+            angles: [0.0; 6144],
+            flags: [0; 1024],
+            out: ArrayVec::new(),
+        }
+    }
+}
+
 // The lines of a block that is no limits block.
-fn pose_lines(
-    bytes: &[u8],
-    place: u64,
-    limits: &[f64],
-    angles: &mut [f64],
-    flags: &mut [u8],
-    out: &mut Buffer,
-) -> usize
-    requires { (length angles.old ≡ 6144) × (length flags.old ≡ 1024) }
-    ensures put { Put (pose_lines bytes.now place limits.now) 0 out.old out.new result }
-    ensures upper_bound { result ≤ 106608 }
+fn pose_lines(bytes: &[u8], place: u64, limits: &[f64], space: &mut Space)
+    ensures { space.new.out.items ≡ pose_lines bytes.now place limits.now }
 {
-    let s = solve_block(bytes, limits, angles, flags);
-    let m = head(out, place, s.refusal, s.answers as u64, s.evals);
-    lines_of(out, m, angles, flags, shown(s.answers))
+    let s = solve_block(bytes, limits, &mut space.angles, &mut space.flags);
+    let answers = s.answers as u64;
+    let refusal = number_of(s.outcome);
+    head(&mut space.out, place, refusal, answers, s.evals);
+    lines_of(
+        &mut space.out,
+        &space.angles,
+        &space.flags,
+        shown(s.answers),
+    );
 }
 
 // The line of a limits block that is refused; one that is accepted has none.
-fn limits_lines(bytes: &[u8], place: u64, out: &mut Buffer) -> usize
-    ensures put { Put (limits_lines bytes.now place) 0 out.old out.new result }
-    ensures upper_bound { result ≤ 112 }
+fn limits_lines(bytes: &[u8], place: u64, space: &mut Space)
+    ensures { space.new.out.items ≡ limits_lines bytes.now place }
 {
-    let refused = limits_block::refusal(bytes);
-    if refused == 0 {
-        return 0;
+    if let Err(refusal) = limits_block::refusal(bytes) {
+        head(&mut space.out, place, refusal.number(), 0, 0);
+    } else {
+        space.out.clear();
     }
-    head(out, place, refused, 0, 0)
 }
 
-// Writes the lines of a block to the start of the buffer, and gives their length. The two lists are
-// lent for the answers: what they held before plays no part.
-pub fn lines(
-    bytes: &[u8],
-    place: u64,
-    limits: &[f64],
-    angles: &mut [f64],
-    flags: &mut [u8],
-    out: &mut Buffer,
-) -> usize
-    requires { (length angles.old ≡ 6144) × (length flags.old ≡ 1024) }
-    ensures put { Put (lines bytes.now place limits.now) 0 out.old out.new result }
-    ensures upper_bound { result ≤ 106608 }
+// Leaves the lines of a block in `space.out`. What the space held before plays no part.
+#[tactic(auto, unfolding(crate::specs::Lines::lines))]
+pub fn lines(bytes: &[u8], place: u64, limits: &[f64], space: &mut Space)
+    ensures { space.new.out.items ≡ lines bytes.now place limits.now }
 {
     if limits_block::is_limits(bytes) {
-        return limits_lines(bytes, place, out);
+        limits_lines(bytes, place, space);
+    } else {
+        pose_lines(bytes, place, limits, space);
     }
-    pose_lines(bytes, place, limits, angles, flags, out)
 }

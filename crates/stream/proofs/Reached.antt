@@ -4,17 +4,17 @@ use mathlib.Core.Path.{◌≡◌, refl, sym, ap, ◌∙◌}
 use mathlib.Core.Bool.{Bool, true, false, cond, true≢false}
 use mathlib.Core.List.{List, [], ◌∷◌, ◌++◌}
 use native.Mathlib.Omega.{arith}
-use lib.Ieee.{Float}
-use lib.ListN.{length, drop, length-append, length-take, length-drop}
-use Rattle.std.proofs.Common.{Option, IfSome, subst, append-nil, append_assoc}
+use lib.ListN.{length, length-append, length-take}
+use Rattle.std.proofs.Common.{Option, IfSome, None, subst, append-nil, append_assoc}
 use Rattle.std.proofs.KnownBytes.{Consumes-nil, Consumes-trans, Consumes-all, Appends-nil, Appends-trans}
 use Rattle.std.specs.Io.KnownBytes.{Appends, Consumes}
-use Rattle.stream.specs.Standing.{Standing, start, some, go_on}
+use Rattle.stream.specs.Standing.{Standing, start, some, next, go_on}
 use Rattle.stream.specs.Calls.{Call, after, reads, writes, all_read, all_written, Fitting, Served, Copied}
-use Rattle.stream.specs.Progress.{standing, Sound, Ready, Asked, Turned}
+use Rattle.stream.specs.Progress.{standing, Sound, Turned}
 use Rattle.stream.specs.declared.progress.Ask.{Ask}
 use Rattle.stream.specs.declared.progress.Ask.TheVariants.{Stop}
 use Rattle.stream.specs.declared.progress.Progress.{Progress}
+use Rattle.stream.specs.declared.progress.Workspace.{Workspace}
 use Rattle.stream.proofs.Right.{after_one, fitting_one, right}
 
 -- one call more
@@ -22,15 +22,15 @@ read_one : (s : Standing) (calls : List Call) (c : Call) → all_read s (calls +
 unfolding all_read after
 read_one s [] c = append-nil (reads s c)
 read_one s (d ∷ calls) c =
-    let next = go_on s d.gave d.behind in
-    ap (λ (l : List ℕ). reads s d ++ l) (read_one next calls c) ∙ sym (append_assoc (reads s d) (all_read next calls) (reads (after next calls) c))
+    let then = go_on s d.gave d.behind in
+    ap (λ (l : List ℕ). reads s d ++ l) (read_one then calls c) ∙ sym (append_assoc (reads s d) (all_read then calls) (reads (after then calls) c))
 
 written_one : (s : Standing) (calls : List Call) (c : Call) → all_written s (calls ++ (c ∷ [])) ≡ all_written s calls ++ writes (after s calls) c
 unfolding all_written after
 written_one s [] c = append-nil (writes s c)
 written_one s (d ∷ calls) c =
-    let next = go_on s d.gave d.behind in
-    ap (λ (l : List ℕ). writes s d ++ l) (written_one next calls c) ∙ sym (append_assoc (writes s d) (all_written next calls) (writes (after next calls) c))
+    let then = go_on s d.gave d.behind in
+    ap (λ (l : List ℕ). writes s d ++ l) (written_one then calls c) ∙ sym (append_assoc (writes s d) (all_written then calls) (writes (after then calls) c))
 
 -- nothing is read past the end
 ended_reads : (s : Standing) (c : Call) → s.ended ≡ true → reads s c ≡ []
@@ -43,44 +43,38 @@ ended_reads s c e = rw e (none s.failed (some s.pending))
     none false false = refl
 
 -- n calls were made, each a place at most further on
-pub record Reached (p : Progress) (block : List ℕ) (limits : List Float) (out : List ℕ) (angles : List Float) (flags : List ℕ) (n : ℕ) (left₀ left held₀ held : Option (List ℕ)) : Type 0 where
-  pub ready : Ready p block out angles flags
+pub record Reached (p : Progress) (w : Workspace) (n : ℕ) (left₀ left held₀ held : Option (List ℕ)) : Type 0 where
+  pub sound : Sound p w
   pub calls : List Call
   pub counted : length calls ≡ n
   pub places : p.place ≤ n
   pub fitting : Fitting start calls
-  pub came : after start calls ≡ standing p block limits out
+  pub came : after start calls ≡ standing p w
   pub consumed : Consumes left₀ left (all_read start calls)
   pub appended : Appends held₀ held (all_written start calls)
   pub all_of_it : p.ended ≡ true → IfSome left₀ (λ input. all_read start calls ≡ input)
 
-module _ (block : List ℕ) (limits : List Float) (out : List ℕ) (angles : List Float) (flags : List ℕ) (left₀ held₀ : Option (List ℕ)) where
-  pub none_made : {p : Progress} → p ≡ (record { place = 0; limited = false; filled = 0; from = 0; to = 0; ended = false; failed = false }) → length block ≡ 512 → length out ≡ 106608 → length angles ≡ 6144
-      → length flags ≡ 1024 → Reached p block limits out angles flags 0 left₀ left₀ held₀ held₀
+module _ (left₀ held₀ : Option (List ℕ)) where
+  pub none_made : (w : Workspace) → length w.block ≡ 512 → w.limits ≡ None → w.lines.out.items ≡ []
+      → Reached (record { place = 0; filled = 0; written = 0; ended = false; failed = false }) w 0 left₀ left₀ held₀ held₀
   unfolding after Fitting all_read all_written
-  none_made e block_long out-long angles_long flags_long =
-      rw e
-      (record {
-        ready =
-            record {
-              sound = record { whole_block = block_long; whole_buffer = out-long; room_left = omega arith; in_order = omega arith; in_buffer = omega arith };
-              angles_long = angles_long;
-              flags_long = flags_long;
-            };
+  none_made w block_long unlimited empty =
+      record {
+        sound = record { whole_block = block_long; room_left = omega arith; in_order = omega arith };
         calls = [];
         counted = refl;
         places = omega arith;
         fitting = tt;
-        came = refl;
+        came = rw (unlimited, empty) refl;
         consumed = Consumes-nil left₀;
         appended = Appends-nil held₀;
         all_of_it = λ is. absurd (true≢false (sym is));
-      })
+      }
 
-  module _ (p : Progress) (n : ℕ) (left held : Option (List ℕ)) (r : Reached p block limits out angles flags n left₀ left held₀ held) where
-    module _ (q : Progress) (block' : List ℕ) (limits' : List Float) (out' : List ℕ) (angles' : List Float) (flags' : List ℕ) (left' held' : Option (List ℕ)) (t : Turned p block limits out q block' limits' out' left left' held held') where
+  module _ (p : Progress) (w : Workspace) (n : ℕ) (left held : Option (List ℕ)) (r : Reached p w n left₀ left held₀ held) where
+    module _ (q : Progress) (w' : Workspace) (left' held' : Option (List ℕ)) (t : Turned p w q w' left left' held held') where
       abbrev call : Call
-      call = record { gave = t.gave; behind = drop p.filled block' }
+      call = record { gave = t.gave; behind = t.behind }
 
       all_consumed : Consumes left₀ left' (all_read start (r.calls ++ (call ∷ [])))
       all_consumed =
@@ -96,45 +90,40 @@ module _ (block : List ℕ) (limits : List Float) (out : List ℕ) (angles : Lis
       all_there true e is =
           let same : all_read start (r.calls ++ (call ∷ [])) ≡ all_read start r.calls =
           read_one start r.calls call ∙ ap (λ (s : Standing). all_read start r.calls ++ reads s call) r.came
-          ∙ ap (λ (l : List ℕ). all_read start r.calls ++ l) (ended_reads (standing p block limits out) call e) ∙ append-nil (all_read start r.calls) in
+          ∙ ap (λ (l : List ℕ). all_read start r.calls ++ l) (ended_reads (standing p w) call e) ∙ append-nil (all_read start r.calls) in
           subst (λ (xs : List ℕ). IfSome left₀ (λ input. xs ≡ input)) (sym same) (r.all_of_it e)
       all_there false e is =
           let m = t.moved in
-          let w = t.went in
-          let ends = m.ends (ap (λ (s : Standing). s.ended) (sym w.stands) ∙ is) e in
+          let went = t.went in
+          let ends = m.ends (ap (λ (s : Standing). s.ended) (sym went.stands) ∙ is) e in
           Consumes-all left₀ left' (all_read start (r.calls ++ (call ∷ []))) [] (all_read start (r.calls ++ (call ∷ []))) all_consumed ends refl
 
-      pub one_more : length angles' ≡ length angles → length flags' ≡ length flags → Reached q block' limits' out' angles' flags' (n + 1) left₀ left' held₀ held'
-      one_more same-angles same_flags =
-          let s = r.ready.sound in
-          let w = t.went in
-          let whole = w.sound.whole_block in
+      pub one_more : Reached q w' (n + 1) left₀ left' held₀ held'
+      one_more =
+          let s = r.sound in
+          let went = t.went in
           let begun : length (after start r.calls).begun ≡ p.filled =
-          rw (r.came, length-take p.filled block) (omega (arith, s.whole_block, s.room_left)) in
-          let room : length (after start r.calls).begun + length call.behind ≡ 512 = rw (begun, length-drop p.filled block') (omega (arith, s.room_left)) in
-          let at = w.stands in
+          rw (r.came, length-take p.filled w.block) (omega (arith, s.whole_block, s.room_left)) in
+          let room : length (after start r.calls).begun + length call.behind ≡ 512 = rw begun (t.room) in
           record {
-            ready = record { sound = w.sound; angles_long = same-angles ∙ r.ready.angles_long; flags_long = same_flags ∙ r.ready.flags_long };
+            sound = went.sound;
             calls = r.calls ++ (call ∷ []);
             counted = rw (length-append r.calls (call ∷ [])) (omega (arith, r.counted));
-            places = omega (arith, w.places, r.places);
+            places = omega (arith, went.places, r.places);
             fitting = fitting_one start r.calls call r.fitting room;
-            came = rw (after_one start r.calls call, r.came) (sym at);
+            came = rw (after_one start r.calls call, r.came) (sym went.stands);
             consumed = all_consumed;
             appended = all_appended;
             all_of_it = all_there p.ended refl;
           }
 
-    pub served_out : 2 ^ 64 - 2 ≤ n → Served (standing p block limits out) (2 ^ 64 - 2)
+    pub served_out : 2 ^ 64 - 2 ≤ n → Served (standing p w) (2 ^ 64 - 2)
     served_out h = record { calls = r.calls; fitting = r.fitting; came = r.came; done = λ few. absurd (omega (arith, r.counted)) }
 
-    pub served_all : {ask : Ask} → Asked p ask → ask ≡ Stop → Served (standing p block limits out) (2 ^ 64 - 2)
-    served_all asked e =
-        let s = r.ready.sound in
-        let stop = asked block limits out s.in_order (omega (arith, s.in_buffer, s.whole_buffer)) in
-        record { calls = r.calls; fitting = r.fitting; came = r.came; done = λ _. sym stop ∙ e }
+    pub served_all : {ask : Ask} → ask ≡ next (standing p w) → ask ≡ Stop → Served (standing p w) (2 ^ 64 - 2)
+    served_all asked e = record { calls = r.calls; fitting = r.fitting; came = r.came; done = λ _. sym asked ∙ e }
 
-    pub copied : Copied (standing p block limits out) left₀ left held₀ held
+    pub copied : Copied (standing p w) left₀ left held₀ held
     copied =
         let all = right r.calls r.fitting in
         record {
@@ -147,6 +136,3 @@ module _ (block : List ℕ) (limits : List Float) (out : List ℕ) (angles : Lis
           rest = all.rest;
           beginning = all.beginning;
         }
-
-    pub sound_there : Sound p block out
-    sound_there = r.ready.sound

@@ -13,8 +13,7 @@ use Rattle.lines.specs.Lines.{lines}
 use Rattle.stream.specs.Output.{blocks, printed, output}
 use Rattle.stream.specs.Standing.{Standing, start, broken, delivered, full, received, closed, count, after_write, after_read, go_on}
 use Rattle.stream.specs.Calls.{Call, after, reads, writes, all_read, all_written, Fitting, Right}
-use Rattle.stream.specs.declared.progress.Heard.{Heard}
-use Rattle.stream.specs.declared.progress.Heard.TheVariants.{Bytes, Failed}
+use Rattle.std.proofs.Common.{Option, Some, None}
 use Rattle.stream.proofs.Blocks.{no_blocks, whole_first, short_last}
 
 -- what is still to be written where these bytes are read besides
@@ -29,12 +28,12 @@ either P true h k = h
 either P false h k = k
 
 -- After the end the program stays there and reads nothing.
-stays_ended : (place : ℕ) (limits : List Float) (begun pending : List ℕ) (failed : Bool) (gave : Heard) (behind : List ℕ) → (go_on (mk place limits begun pending true failed) gave behind).ended ≡ true
+stays_ended : (place : ℕ) (limits : List Float) (begun pending : List ℕ) (failed : Bool) (gave : Option ℕ) (behind : List ℕ) → (go_on (mk place limits begun pending true failed) gave behind).ended ≡ true
 unfolding go_on after_write delivered broken
 stays_ended place limits begun pending true gave behind = refl
 stays_ended place limits begun [] false gave behind = refl
-stays_ended place limits begun (x ∷ xs) false Failed behind = refl
-stays_ended place limits begun (x ∷ xs) false (Bytes n) behind =
+stays_ended place limits begun (x ∷ xs) false None behind = refl
+stays_ended place limits begun (x ∷ xs) false (Some n) behind =
     either (λ s. s.ended ≡ true) (eqb n 0) {a = broken (mk place limits begun (x ∷ xs) true false)} {b = mk place limits begun (drop n (x ∷ xs)) true false} refl refl
 
 reads_nothing : (place : ℕ) (limits : List Float) (begun pending : List ℕ) (failed : Bool) (c : Call) → reads (mk place limits begun pending true failed) c ≡ []
@@ -74,11 +73,11 @@ module _ (place : ℕ) (limits : List Float) (begun : List ℕ) where
   delivers pending ended more n false h =
       rw (← append_assoc (take n pending) (drop n pending) (cond ended [] (printed place limits (blocks (begun ++ more)))), take-append-drop n pending)
 
-  after_writing : (pending : List ℕ) (ended : Bool) (gave : Heard) (more : List ℕ)
+  after_writing : (pending : List ℕ) (ended : Bool) (gave : Option ℕ) (more : List ℕ)
       → take (count gave) pending ++ owed (after_write (mk place limits begun pending ended false) gave) more ≡ owed (mk place limits begun pending ended false) more
   unfolding after_write delivered
-  after_writing pending ended (Bytes n) more = delivers pending ended more n _ refl
-  after_writing pending ended Failed more = delivers pending ended more 0 true refl
+  after_writing pending ended (Some n) more = delivers pending ended more n _ refl
+  after_writing pending ended None more = delivers pending ended more 0 true refl
 
   same_owed : (more : List ℕ) → owed (broken (mk place limits begun [] false false)) more ≡ owed (mk place limits begun [] false false) more
   unfolding owed broken
@@ -107,11 +106,11 @@ module _ (place : ℕ) (limits : List Float) (begun : List ℕ) where
       rw (nothing, eqb-true n 0 h) (closes few)
   counts behind more n false h few last = fills (take n behind) more _ refl
 
-  after_reading : (gave : Heard) (behind more : List ℕ) → length begun < 512 → ((after_read (mk place limits begun [] false false) gave behind).ended ≡ true → more ≡ [])
+  after_reading : (gave : Option ℕ) (behind more : List ℕ) → length begun < 512 → ((after_read (mk place limits begun [] false false) gave behind).ended ≡ true → more ≡ [])
       → owed (after_read (mk place limits begun [] false false) gave behind) more ≡ owed (mk place limits begun [] false false) (take (count gave) behind ++ more)
   unfolding after_read
-  after_reading (Bytes n) behind more few last = counts behind more n _ refl few last
-  after_reading Failed behind more few last = same_owed more
+  after_reading (Some n) behind more few last = counts behind more n _ refl few last
+  after_reading None behind more few last = same_owed more
 
   step : (pending : List ℕ) (ended failed : Bool) (c : Call) (more : List ℕ) → length begun < 512
       → ((go_on (mk place limits begun pending ended failed) c.gave c.behind).ended ≡ true → more ≡ [])
@@ -139,17 +138,17 @@ module _ (place : ℕ) (limits : List Float) (begun : List ℕ) where
   counts_few behind n true few room = omega arith
   counts_few behind n false few room = fewer (take n behind) _ refl (omega (arith, length-take n behind))
 
-  reads_few : (gave : Heard) (behind : List ℕ) → length begun < 512 → length begun + length behind ≡ 512 → length (after_read (mk place limits begun [] false false) gave behind).begun < 512
+  reads_few : (gave : Option ℕ) (behind : List ℕ) → length begun < 512 → length begun + length behind ≡ 512 → length (after_read (mk place limits begun [] false false) gave behind).begun < 512
   unfolding after_read broken
-  reads_few (Bytes n) behind few room = counts_few behind n (eqb n 0) few room
-  reads_few Failed behind few room = few
+  reads_few (Some n) behind few room = counts_few behind n (eqb n 0) few room
+  reads_few None behind few room = few
 
-  stays_few : (pending : List ℕ) (ended failed : Bool) (gave : Heard) (behind : List ℕ) → length begun < 512 → length begun + length behind ≡ 512
+  stays_few : (pending : List ℕ) (ended failed : Bool) (gave : Option ℕ) (behind : List ℕ) → length begun < 512 → length begun + length behind ≡ 512
       → length (go_on (mk place limits begun pending ended failed) gave behind).begun < 512
   unfolding go_on after_write delivered broken
   stays_few pending ended true gave behind few room = few
-  stays_few (x ∷ xs) ended false Failed behind few room = few
-  stays_few (x ∷ xs) ended false (Bytes n) behind few room =
+  stays_few (x ∷ xs) ended false None behind few room = few
+  stays_few (x ∷ xs) ended false (Some n) behind few room =
       either (λ s. length s.begun < 512) (eqb n 0)
       {a = broken (mk place limits begun (x ∷ xs) ended false)}
       {b = mk place limits begun (drop n (x ∷ xs)) ended false}

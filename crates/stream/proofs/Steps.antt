@@ -1,336 +1,166 @@
--- What the program's numbers, its block, its limits and its buffer stand for after each step.
-use Prim.Native.Nat.{ℕ, zero, suc, ◌+◌, ◌-◌, ◌<◌, ◌≤◌}
+-- What the program's numbers and its workspace stand for after each step.
+use Prim.Native.Nat.{ℕ, zero, suc, ◌+◌, ◌<◌, ◌≤◌}
 use mathlib.Core.Path.{◌≡◌, refl, sym, ap, ◌∙◌}
-use mathlib.Core.Bool.{Bool, true, false, ◌||◌, cond, true≢false}
+use mathlib.Core.Bool.{Bool, true, false, cond, true≢false}
 use mathlib.Core.List.{List, [], ◌∷◌, ◌++◌}
-use native.Mathlib.Nat.{le_refl}
 use native.Mathlib.Omega.{arith}
-use borrow.Rule.Slice.PartMut.{mid_of, put_mid, same_len_mid, take_put}
 use borrow.Author.Tests.{eq-eqb, ne_eqb}
 use lib.Dec.{eqb}
 use lib.Ieee.{Float}
 use lib.ListN.{length, take, drop, length-take, length-drop}
-use lib.Seq.{length-sets, take-add, take_all, take-nil, drop-drop, drop_at, length-take-le}
-use Rattle.std.proofs.Common.{Option, Some, None, Result, Ok, Err, append-nil, min}
+use lib.Seq.{take-add, take_all, take-nil, drop-drop}
+use Rattle.std.proofs.Common.{Option, Some, None}
 use Rattle.std.proofs.KnownBytes.{Consumes-nil, Appends-nil}
-use Rattle.std.proofs.lemmas.List.{take_min}
-use Rattle.std.specs.Io.KnownBytes.{Appends, Consumes, IsAtEnd, Keeps, ReadConsumes, WriteAppends}
+use Rattle.std.specs.Io.KnownBytes.{Appends, Consumes, IsAtEnd}
 use Rattle.stream.specs.Calls.{Call, Moved, reads, writes}
-use Rattle.limits_block.specs.LimitsBlock.{limits as brought, accepted, in_force}
-use Rattle.limits_block.proofs.Accepted.{twelve}
+use Rattle.limits_block.specs.LimitsBlock.{accepted, in_force}
 use Rattle.lines.specs.Lines.{lines}
-use Rattle.lines.proofs.AtStart.{shown}
-use Rattle.text.specs.Text.{Put}
 use Rattle.stream.specs.Output.{place_after}
-use Rattle.stream.specs.Standing.{Standing, some, broken, delivered, full, received, closed, heard, count, next, after_write, after_read, go_on}
-use Rattle.stream.specs.Progress.{held, standing, failing, wrote, Sound, Ready, Went, Asked, Turned}
+use Rattle.stream.specs.Standing.{Standing, some, broken, delivered, full, received, closed, count, next, after_write, after_read, go_on}
+use Rattle.stream.specs.Progress.{numbers, standing, failing, wrote, Sound, Went, Turned}
 use Rattle.stream.specs.declared.progress.Ask.{Ask}
 use Rattle.stream.specs.declared.progress.Ask.TheVariants.{Write, Read, Stop}
-use Rattle.stream.specs.declared.progress.Heard.{Heard}
-use Rattle.stream.specs.declared.progress.Heard.TheVariants.{Bytes, Failed}
 use Rattle.stream.specs.declared.progress.Progress.{Progress}
+use Rattle.stream.specs.declared.progress.Workspace.{Workspace}
 
--- a part of n bytes
-pub part : {A : Type 0} (xs : List A) (n : ℕ) → n ≤ length xs → n ≡ length (take n xs)
-part xs n h = sym (length-take-le n xs h)
-
-abbrev at : ℕ → Bool → ℕ → ℕ → ℕ → Bool → Bool → Progress
-at place limited filled from to ended failed = record { place = place; limited = limited; filled = filled; from = from; to = to; ended = ended; failed = failed }
-
--- `print`: the limits in force are a part of the twelve numbers
-module _ (limits : List Float) (limited : Bool) {n : ℕ} (e : n ≡ held limited) where
-  held_few : (t : Bool) → held t ≤ 12
-  held_few true = omega arith
-  held_few false = omega arith
-
-  pub held_part : length limits ≡ 12 → n ≡ length (take n limits)
-  held_part long = part limits n (omega (arith, held_few limited))
-
-  pub held_lines : (block : List ℕ) (place : ℕ) {out₀ out : List ℕ} {r : ℕ} → Put (lines block place (take n limits)) 0 out₀ out r → Put (lines block place (take (held limited) limits)) 0 out₀ out r
-  held_lines block place put = rw e at put
-
--- of the limits that a block leaves, those in force are as the definition has them
-module _ (block : List ℕ) (limits : List Float) where
-  either_held : (limited accept : Bool) → take (held (limited || accept)) (cond accept (brought block) limits) ≡ cond accept (brought block) (take (held limited) limits)
-  either_held true true = take_all 12 (brought block) (omega (arith, twelve block))
-  either_held false true = take_all 12 (brought block) (omega (arith, twelve block))
-  either_held true false = refl
-  either_held false false = refl
-
-  still_held : (limited : Bool) → take (held (limited || accepted block)) (in_force block limits) ≡ in_force block (take (held limited) limits)
-  unfolding in_force
-  still_held limited = either_held limited (accepted block)
-
--- `place_after`
-module _ (place : ℕ) {accept : Bool} where
-  pub same_place : accept ≡ true → place ≡ cond accept place (place + 1)
-  same_place e = rw e
-
-  pub next_place : accept ≡ false → place + 1 ≡ cond accept place (place + 1)
-  next_place e = rw e
+abbrev at : ℕ → ℕ → ℕ → Bool → Bool → Progress
+at place filled written ended failed = record { place = place; filled = filled; written = written; ended = ended; failed = failed }
 
 next_at_most : (place : ℕ) (accept : Bool) → cond accept place (place + 1) ≤ place + 1
 next_at_most place true = omega arith
 next_at_most place false = omega arith
 
-module _ (p : Progress) (block : List ℕ) (limits : List Float) (out₀ : List ℕ) (s : Sound p block out₀) where
+-- `w` is the workspace before a step and `w'` after it
+module _ (p : Progress) (w w' : Workspace) (s : Sound p w) (same_block : w'.block ≡ w.block) where
+  whole : length w'.block ≡ 512
+  whole = ap length same_block ∙ s.whole_block
+
   -- the input ends
-  pub closes_none : p.filled ≡ 0 → Went (closed (standing p block limits out₀)) (at p.place p.limited 0 0 0 true p.failed) p.place block limits out₀
+  pub closes_none : p.filled ≡ 0 → w'.limits ≡ w.limits → w'.lines.out.items ≡ [] → Went (closed (standing p w)) (at p.place 0 0 true p.failed) p.place w'
   unfolding closed
-  closes_none h =
-      let e : length (take p.filled block) ≡ 0 = rw (length-take p.filled block) (omega arith) in
+  closes_none h same_limits empty =
+      let e : length (take p.filled w.block) ≡ 0 = rw (length-take p.filled w.block) (omega arith) in
       record {
-        stands = rw (eq-eqb (length (take p.filled block)) 0 e);
-        sound = record { whole_block = s.whole_block; whole_buffer = s.whole_buffer; room_left = omega arith; in_order = omega arith; in_buffer = omega arith };
+        stands = rw (eq-eqb (length (take p.filled w.block)) 0 e, same_limits, empty) refl;
+        sound = record { whole_block = whole; room_left = omega arith; in_order = omega arith };
         places = omega arith;
       }
 
-  module _ (out : List ℕ) (m : ℕ) (few : m ≤ 106608) where
-    -- the buffer keeps its length
-    kept : {text : List ℕ} → Put text 0 out₀ out m → length out ≡ 106608
-    kept {text} put = ap length put.all_bytes ∙ length-sets out₀ 0 text ∙ s.whole_buffer
-
-    from_start : m - 0 ≡ m
-    from_start = omega arith
-
-    pub closes_short : (p.filled ≡ 0 → ⊥) → Put (lines (take p.filled block) p.place (take (held p.limited) limits)) 0 out₀ out m
-        → Went (closed (standing p block limits out₀)) (at p.place p.limited 0 0 m true p.failed) p.place block limits out
+  module _ {l : List Float} (held : l ≡ numbers w.limits) where
+    pub closes_short : (p.filled ≡ 0 → ⊥) → w'.limits ≡ w.limits → w'.lines.out.items ≡ lines (take p.filled w.block) p.place l
+        → Went (closed (standing p w)) (at p.place 0 0 true p.failed) p.place w'
     unfolding closed
-    closes_short h put =
-        let e : length (take p.filled block) ≡ p.filled = rw (length-take p.filled block) (omega (arith, s.whole_block, s.room_left)) in
-        let text = shown (take p.filled block) p.place (take (held p.limited) limits) out₀ out m s.whole_buffer put few in
+    closes_short h same_limits printed =
+        let e : length (take p.filled w.block) ≡ p.filled = rw (length-take p.filled w.block) (omega (arith, s.whole_block, s.room_left)) in
         record {
-          stands = rw (ne_eqb (length (take p.filled block)) 0 (λ z. h (sym e ∙ z)), from_start, text);
-          sound = record { whole_block = s.whole_block; whole_buffer = kept put; room_left = omega arith; in_order = omega arith; in_buffer = omega arith };
+          stands = rw (ne_eqb (length (take p.filled w.block)) 0 (λ z. h (sym e ∙ z)), same_limits, printed, held) refl;
+          sound = record { whole_block = whole; room_left = omega arith; in_order = omega arith };
           places = omega arith;
         }
 
     -- the block is full
-    pub filled_up : {limits' : List Float} {accept limited : Bool} {place : ℕ} → Put (lines block p.place (take (held p.limited) limits)) 0 out₀ out m → accept ≡ accepted block
-        → limits' ≡ in_force block limits → limited ≡ p.limited || accept → place ≡ cond accept p.place (p.place + 1)
-        → Went (full (standing p block limits out₀) block) (at place limited 0 0 m p.ended p.failed) p.place block limits' out
+    pub filled_up : {accept : Bool} {place : ℕ} → w'.lines.out.items ≡ lines w.block p.place l → accept ≡ accepted w.block
+        → numbers w'.limits ≡ in_force w.block (numbers w.limits) → place ≡ cond accept p.place (p.place + 1)
+        → Went (full (standing p w) w.block) (at place 0 0 p.ended p.failed) p.place w'
     unfolding full place_after
-    filled_up {limits'} {accept} {limited} {place} put e-a e-l e-h e-p =
-        let text = shown block p.place (take (held p.limited) limits) out₀ out m s.whole_buffer put few in
+    filled_up {accept} printed e-a e-l e-p =
         record {
-          stands = rw (e-p, e-h, e-l, e-a, still_held block limits p.limited, from_start, text);
-          sound = record { whole_block = s.whole_block; whole_buffer = kept put; room_left = omega arith; in_order = omega arith; in_buffer = omega arith };
+          stands = rw (e-p, e-l, e-a, printed, held) refl;
+          sound = record { whole_block = whole; room_left = omega arith; in_order = omega arith };
           places = rw e-p (next_at_most p.place accept);
         }
 
-  -- n bytes more fill the block
-  pub fills : (n : ℕ) {r : Progress} {limits' : List Float} {out : List ℕ} → p.filled + n ≡ 512 → Went (full (standing p block limits out₀) block) r p.place block limits' out
-      → Went (received (standing p block limits out₀) (take n (drop p.filled block))) r p.place block limits' out
+  -- n bytes more do not fill the block
+  pub begins : (n : ℕ) → p.filled + n ≤ 512 → (p.filled + n ≡ 512 → ⊥) → w'.limits ≡ w.limits → w'.lines.out.items ≡ []
+      → Went (received (standing p w) (take n (drop p.filled w.block))) (at p.place (p.filled + n) 0 p.ended p.failed) p.place w'
   unfolding received
-  fills n h w =
-      let whole : take p.filled block ++ take n (drop p.filled block) ≡ block = sym (take-add p.filled n block) ∙ take_all (p.filled + n) block (omega (arith, s.whole_block)) in
-      rw (whole, eq-eqb (length block) 512 s.whole_block) w
-
-  -- they do not
-  pub begins : (n : ℕ) → p.filled + n ≤ 512 → (p.filled + n ≡ 512 → ⊥)
-      → Went (received (standing p block limits out₀) (take n (drop p.filled block))) (at p.place p.limited (p.filled + n) 0 0 p.ended p.failed) p.place block limits out₀
-  unfolding received
-  begins n all h =
-      let more : take p.filled block ++ take n (drop p.filled block) ≡ take (p.filled + n) block = sym (take-add p.filled n block) in
-      let long : length (take (p.filled + n) block) ≡ p.filled + n = rw (length-take (p.filled + n) block) (omega (arith, s.whole_block)) in
+  begins n all h same_limits empty =
+      let more : take p.filled w.block ++ take n (drop p.filled w.block) ≡ take (p.filled + n) w.block = sym (take-add p.filled n w.block) in
+      let long : length (take (p.filled + n) w.block) ≡ p.filled + n = rw (length-take (p.filled + n) w.block) (omega (arith, s.whole_block)) in
       record {
-        stands = rw (more, ne_eqb (length (take (p.filled + n) block)) 512 (λ z. h (sym long ∙ z)));
-        sound = record { whole_block = s.whole_block; whole_buffer = s.whole_buffer; room_left = omega arith; in_order = omega arith; in_buffer = omega arith };
+        stands = rw (more, ne_eqb (length (take (p.filled + n) w.block)) 512 (λ z. h (sym long ∙ z)), same_limits, same_block, empty) refl;
+        sound = record { whole_block = whole; room_left = omega arith; in_order = omega arith };
         places = omega arith;
       }
 
--- a part of a part
-drop_take : {A : Type 0} (n m : ℕ) (l : List A) → drop n (take m l) ≡ take (m - n) (drop n l)
-drop_take zero m l = let e : m - 0 ≡ m = omega arith in rw e
-drop_take (suc n) zero l = let e : 0 - suc n ≡ 0 = omega arith in rw e
-drop_take (suc n) (suc m) [] = rw (take-nil (suc m - suc n))
-drop_take (suc n) (suc m) (x ∷ l) = let e : suc m - suc n ≡ m - n = omega arith in rw e (drop_take n m l)
+-- they do
+pub fills : (p : Progress) (w : Workspace) (s : Sound p w) (n : ℕ) {r : Progress} {w' : Workspace} → p.filled + n ≡ 512 → Went (full (standing p w) w.block) r p.place w'
+    → Went (received (standing p w) (take n (drop p.filled w.block))) r p.place w'
+unfolding received
+fills p w s n h went =
+    let whole : take p.filled w.block ++ take n (drop p.filled w.block) ≡ w.block = sym (take-add p.filled n w.block) ∙ take_all (p.filled + n) w.block (omega (arith, s.whole_block)) in
+    rw (whole, eq-eqb (length w.block) 512 s.whole_block) went
 
 some_of : (l : List ℕ) → 0 < length l → some l ≡ true
 some_of [] h = absurd (omega arith)
 some_of (x ∷ l) h = refl
 
-module _ (p : Progress) (block : List ℕ) (limits : List Float) (out : List ℕ) (s : Sound p block out) where
+none_of : (l : List ℕ) → length l ≤ 0 → some l ≡ false
+none_of [] h = refl
+none_of (x ∷ l) h = absurd (omega arith)
+
+module _ (p : Progress) (w : Workspace) (s : Sound p w) where
   -- after a write
-  written_on : (n : ℕ) (t : Bool) → eqb n 0 ≡ t → p.from + n ≤ p.to
-      → Went (cond t (broken (standing p block limits out)) (record { place = p.place; limits = take (held p.limited) limits; begun = take p.filled block; pending = drop n (take (p.to - p.from) (drop p.from out)); ended = p.ended; failed = p.failed }))
-      (cond t (failing p) (at p.place p.limited p.filled (p.from + n) p.to p.ended p.failed)) p.place block limits out
+  written_on : (n : ℕ) (t : Bool) → eqb n 0 ≡ t → p.written + n ≤ length w.lines.out.items
+      → Went (cond t (broken (standing p w)) (record { place = p.place; limits = numbers w.limits; begun = take p.filled w.block; pending = drop n (drop p.written w.lines.out.items); ended = p.ended; failed = p.failed }))
+      (cond t (failing p) (at p.place p.filled (p.written + n) p.ended p.failed)) p.place w
   unfolding broken
   written_on n true e fits =
-      record {
-        stands = refl;
-        sound = record { whole_block = s.whole_block; whole_buffer = s.whole_buffer; room_left = s.room_left; in_order = s.in_order; in_buffer = s.in_buffer };
-        places = omega arith;
-      }
+      record { stands = refl; sound = record { whole_block = s.whole_block; room_left = s.room_left; in_order = s.in_order }; places = omega arith }
   written_on n false e fits =
-      let left : p.to - p.from - n ≡ p.to - (p.from + n) = omega arith in
       record {
-        stands = rw (drop_take n (p.to - p.from) (drop p.from out), drop-drop n p.from out, left);
-        sound = record { whole_block = s.whole_block; whole_buffer = s.whole_buffer; room_left = s.room_left; in_order = fits; in_buffer = s.in_buffer };
+        stands = rw (drop-drop n p.written w.lines.out.items) refl;
+        sound = record { whole_block = s.whole_block; room_left = s.room_left; in_order = fits };
         places = omega arith;
       }
 
-  pub writes_on : (gave : Heard) → p.from + count gave ≤ p.to → Went (after_write (standing p block limits out) gave) (wrote p (count gave)) p.place block limits out
+  pub writes_on : (gave : Option ℕ) → p.written + count gave ≤ length w.lines.out.items → Went (after_write (standing p w) gave) (wrote p (count gave)) p.place w
   unfolding after_write delivered
-  writes_on (Bytes n) fits = written_on n (eqb n 0) refl fits
-  writes_on Failed fits = written_on 0 true refl fits
+  writes_on (Some n) fits = written_on n (eqb n 0) refl fits
+  writes_on None fits = written_on 0 true refl fits
 
   -- after a read
-  pub reads_fail : {gave : Heard} {r : Progress} → gave ≡ Failed → r ≡ failing p → Went (after_read (standing p block limits out) gave (drop p.filled block)) r p.place block limits out
+  pub reads_fail : {gave : Option ℕ} → gave ≡ None → Went (after_read (standing p w) gave (drop p.filled w.block)) (failing p) p.place w
   unfolding after_read
-  reads_fail e f = rw (e, f) (written_on 0 true refl (omega (arith, s.in_order)))
+  reads_fail e = rw e (written_on 0 true refl (omega (arith, s.in_order)))
 
-  module _ {gave : Heard} {n : ℕ} {r : Progress} {limits' : List Float} {out' : List ℕ} (e : gave ≡ Bytes n) where
-    pub reads_none : n ≡ 0 → Went (closed (standing p block limits out)) r p.place block limits' out' → Went (after_read (standing p block limits out) gave (drop p.filled block)) r p.place block limits' out'
+  module _ {gave : Option ℕ} {n : ℕ} {r : Progress} {w' : Workspace} (e : gave ≡ Some n) where
+    pub reads_none : n ≡ 0 → Went (closed (standing p w)) r p.place w' → Went (after_read (standing p w) gave (drop p.filled w.block)) r p.place w'
     unfolding after_read
-    reads_none h w = rw (e, eq-eqb n 0 h) w
+    reads_none h went = rw (e, eq-eqb n 0 h) went
 
-    pub reads_some : (n ≡ 0 → ⊥) → Went (received (standing p block limits out) (take n (drop p.filled block))) r p.place block limits' out'
-        → Went (after_read (standing p block limits out) gave (drop p.filled block)) r p.place block limits' out'
+    pub reads_some : (n ≡ 0 → ⊥) → Went (received (standing p w) (take n (drop p.filled w.block))) r p.place w'
+        → Went (after_read (standing p w) gave (drop p.filled w.block)) r p.place w'
     unfolding after_read
-    reads_some h w = rw (e, ne_eqb n 0 h) w
-
--- `after_write`
-module _ (p : Progress) (gave : Heard) {n : ℕ} (e : n ≡ count gave) where
-  pub wrote_none : {r : Progress} → n ≡ 0 → r ≡ failing p → r ≡ wrote p (count gave)
-  wrote_none h w = rw (← e, eq-eqb n 0 h) w
-
-  pub wrote_some : (n ≡ 0 → ⊥) → at p.place p.limited p.filled (p.from + n) p.to p.ended p.failed ≡ wrote p (count gave)
-  wrote_some h = rw (← e, ne_eqb n 0 h)
-
--- a part's length
-pub part_long : {A : Type 0} (l : List A) (from to : ℕ) → from ≤ to → to ≤ length l → length (take (to - from) (drop from l)) ≡ to - from
-part_long l from to in_order inside = rw (length-take (to - from) (drop from l), length-drop from l) (omega arith)
-
--- no more is moved than there was room for
-pub within : {E : Type 0} (moved : Result ℕ E) (most : ℕ) → count (heard moved most) ≤ most
-within (Ok k) most = omega arith
-within (Err e) most = omega arith
-
-pub fits_in : (a : ℕ) {gave : Heard} {n : ℕ} → gave ≡ Bytes n → a + count gave ≤ 512 → a + n ≤ 512
-fits_in a e h = rw e at h
-
--- what was heard of a part
-pub wrote_within : (out : List ℕ) (from to : ℕ) → from ≤ to → to ≤ length out → {E : Type 0} {r : Heard} (moved : Result ℕ E) → r ≡ heard moved (length (take (to - from) (drop from out))) → from + count r ≤ to
-wrote_within out from to in_order inside moved e =
-    let long = part_long out from to in_order inside in
-    rw (e, long) (omega (arith, within moved (to - from)))
-
-module _ (block ys : List ℕ) (filled : ℕ) (inside : filled ≤ length block) (h : length ys ≡ length (mid_of filled (length block - filled) block)) where
-  -- the block after a read
-  abbrev after : List ℕ
-  after = put_mid filled (length block - filled) block ys
-
-  pub read_long : length after ≡ length block
-  read_long = same_len_mid filled (length block - filled) block ys h
-
-  pub read_kept : take filled after ≡ take filled block
-  read_kept = take_put filled (length block - filled) block ys inside
-
-  pub read_within : {E : Type 0} {r : Heard} (moved : Result ℕ E) → r ≡ heard moved (length (take (length after - filled) (drop filled after))) → filled + count r ≤ length block
-  read_within moved e =
-      let same = read_long in
-      let long = part_long after filled (length after) (omega (arith, same)) (le_refl (length after)) in
-      rw (e, long, same) (omega (arith, within moved (length block - filled)))
-
--- what a call of the system did to the bytes that are known
-keeps_consumes : (a b : Option (List ℕ)) → Keeps a b → Consumes a b []
-keeps_consumes None b k = tt
-keeps_consumes (Some x) None k = k
-keeps_consumes (Some x) (Some y) k = sym k
-
-keeps_appends : (a b : Option (List ℕ)) → Keeps a b → Appends a b []
-keeps_appends None b k = tt
-keeps_appends (Some x) None k = k
-keeps_appends (Some x) (Some y) k = k ∙ sym (append-nil x)
-
-pub written_bytes : {E : Type 0} (a b : Option (List ℕ)) (moved : Result ℕ E) (lent : List ℕ) {r : Heard} → r ≡ heard moved (length lent) → WriteAppends a b moved lent → Appends a b (take (count r) lent)
-written_bytes a b (Ok n) lent e w = rw (e, take_min n lent) w
-written_bytes a b (Err x) lent e w = rw e (keeps_appends a b w)
-
-consumed_bytes : {E : Type 0} (a b : Option (List ℕ)) (moved : Result ℕ E) (lent : List ℕ) {r : Heard} → r ≡ heard moved (length lent) → ReadConsumes a b moved lent → Consumes a b (take (count r) lent)
-consumed_bytes a b (Ok n) lent e w = rw (e, take_min n lent) w.0
-consumed_bytes a b (Err x) lent e w = rw e (keeps_consumes a b w)
-
-consumed_end : {E : Type 0} (a b : Option (List ℕ)) (moved : Result ℕ E) (lent : List ℕ) {r : Heard} → r ≡ heard moved (length lent) → ReadConsumes a b moved lent → r ≡ Bytes 0 → 0 < length lent → IsAtEnd b
-consumed_end a b (Ok n) lent e w h some =
-    let few : min n (length lent) ≡ 0 = ap count (sym e ∙ h) in
-    w.1 (omega arith) some
-consumed_end a b (Err x) lent e w h some = let f : Failed ≡ Bytes 0 = sym e ∙ h in let z : ◌≡◌ {A = ℕ} 0 1 = cc in absurd (omega arith)
-
-empty_of : (l : List ℕ) → length l ≡ 0 → l ≡ []
-empty_of [] h = refl
-empty_of (x ∷ l) h = absurd (omega arith)
-
-module _ (block ys : List ℕ) (filled : ℕ) (inside : filled ≤ length block) (h : length ys ≡ length (mid_of filled (length block - filled) block)) where
-  -- the part that was lent, after the read
-  lent_is : drop filled (after block ys filled inside h) ≡ ys
-  lent_is =
-      let rest = drop (length block - filled) (drop filled block) in
-      let none : rest ≡ [] = empty_of rest (rw (length-drop (length block - filled) (drop filled block), length-drop filled block) (omega arith)) in
-      drop_at (take filled block) (ys ++ rest) filled (length-take-le filled block inside) ∙ rw none (append-nil ys)
-
-  all_lent : take (length (after block ys filled inside h) - filled) (drop filled (after block ys filled inside h)) ≡ drop filled (after block ys filled inside h)
-  all_lent =
-      take_all (length (after block ys filled inside h) - filled) (drop filled (after block ys filled inside h))
-      (rw (length-drop filled (after block ys filled inside h)) (omega arith))
-
-  module _ {E : Type 0} (a b : Option (List ℕ)) (moved : Result ℕ E) {r : Heard}
-      (e : r ≡ heard moved (length (take (length (after block ys filled inside h) - filled) (drop filled (after block ys filled inside h))))) (w : ReadConsumes a b moved ys) where
-    of_all : r ≡ heard moved (length ys)
-    of_all = e ∙ ap (λ (l : List ℕ). heard moved (length l)) (all_lent ∙ lent_is)
-
-    pub read_bytes : Consumes a b (take (count r) (drop filled (after block ys filled inside h)))
-    read_bytes = rw lent_is (consumed_bytes a b moved ys of_all w)
-
-    pub read_at_end : r ≡ Bytes 0 → filled < length block → IsAtEnd b
-    read_at_end z some =
-        let long : length ys ≡ length block - filled = rw (h, length-take (length block - filled) (drop filled block), length-drop filled block) (omega arith) in
-        consumed_end a b moved ys of_all w z (omega arith)
+    reads_some h went = rw (e, ne_eqb n 0 h) went
 
 -- `next`
-module _ (p : Progress) where
-  pub asks_none : p.failed ≡ true → Asked p Stop
+module _ (p : Progress) (w : Workspace) where
+  pub asks_none : p.failed ≡ true → Stop ≡ next (standing p w)
   unfolding next
-  asks_none h block limits out in_order inside = rw h
+  asks_none h = rw h refl
 
   module _ (well : p.failed ≡ false) where
-    pub asks_write : p.from < p.to → Asked p Write
+    pub asks_write : p.written < length w.lines.out.items → Write ≡ next (standing p w)
     unfolding next
-    asks_write h block limits out in_order inside =
-        let l = part_long out p.from p.to in_order inside in
-        rw (well, some_of (take (p.to - p.from) (drop p.from out)) (omega (arith, l)))
+    asks_write h = rw (well, some_of (drop p.written w.lines.out.items) (rw (length-drop p.written w.lines.out.items) (omega arith))) refl
 
-    module _ (h : p.to ≤ p.from) where
-      pub asks_end : p.ended ≡ true → Asked p Stop
+    module _ (h : length w.lines.out.items ≤ p.written) where
+      none_left : some (drop p.written w.lines.out.items) ≡ false
+      none_left = none_of (drop p.written w.lines.out.items) (rw (length-drop p.written w.lines.out.items) (omega arith))
+
+      pub asks_end : p.ended ≡ true → Stop ≡ next (standing p w)
       unfolding next
-      asks_end e block limits out in_order inside = let z : p.to - p.from ≡ 0 = omega arith in rw (z, well, e)
+      asks_end e = rw (none_left, well, e) refl
 
-      pub asks_read : p.ended ≡ false → Asked p Read
+      pub asks_read : p.ended ≡ false → Read ≡ next (standing p w)
       unfolding next
-      asks_read e block limits out in_order inside = let z : p.to - p.from ≡ 0 = omega arith in rw (z, well, e)
-
-module _ (p : Progress) (block block' out : List ℕ) (angles : List Float) (flags : List ℕ) (r : Ready p block out angles flags) where
-  pub ready_again : length block' ≡ length block → Ready p block' out angles flags
-  ready_again same =
-      let s = r.sound in
-      record {
-        sound = record { whole_block = same ∙ s.whole_block; whole_buffer = s.whole_buffer; room_left = s.room_left; in_order = s.in_order; in_buffer = s.in_buffer };
-        angles_long = r.angles_long;
-        flags_long = r.flags_long;
-      }
-
-  pub room_again : (gave : Heard) → p.filled + count gave ≤ length block → p.filled + count gave ≤ 512
-  room_again gave fits = let l = r.sound.whole_block in omega arith
-
--- `turn`: what happens is what was asked
-pub asked_read : (p : Progress) {ask : Ask} → Asked p ask → ask ≡ Read → Asked p Read
-asked_read p asked e block limits out in_order inside = sym e ∙ asked block limits out in_order inside
+      asks_read e = rw (none_left, well, e) refl
 
 abbrev mk : ℕ → List Float → List ℕ → List ℕ → Bool → Bool → Standing
 mk place limits begun pending ended failed = record { place = place; limits = limits; begun = begun; pending = pending; ended = ended; failed = failed }
 
-module _ (place : ℕ) (limits : List Float) (begun : List ℕ) (h : Heard) (behind : List ℕ) where
+module _ (place : ℕ) (limits : List Float) (begun : List ℕ) (h : Option ℕ) (behind : List ℕ) where
   stop_stays : (pending : List ℕ) (ended failed : Bool) → Stop ≡ next (mk place limits begun pending ended failed) → go_on (mk place limits begun pending ended failed) h behind ≡ mk place limits begun pending ended failed
   unfolding next go_on
   stop_stays pending ended true e = refl
@@ -355,14 +185,14 @@ module _ (place : ℕ) (limits : List Float) (begun : List ℕ) (h : Heard) (beh
   read_goes [] false false e = refl
 
 -- a write does not end the input
-write_ends : (s : Standing) (h : Heard) → (after_write s h).ended ≡ s.ended
+write_ends : (s : Standing) (h : Option ℕ) → (after_write s h).ended ≡ s.ended
 unfolding after_write delivered broken
-write_ends s (Bytes n) = either (eqb n 0)
+write_ends s (Some n) = either (eqb n 0)
   where
     either : (t : Bool) → (cond t (broken s) (record { place = s.place; limits = s.limits; begun = s.begun; pending = drop n s.pending; ended = s.ended; failed = s.failed })).ended ≡ s.ended
     either true = refl
     either false = refl
-write_ends s Failed = refl
+write_ends s None = refl
 
 -- nor does a read that brings bytes
 received_ends : (s : Standing) (new : List ℕ) → (received s new).ended ≡ s.ended
@@ -373,17 +203,17 @@ received_ends s new = either (eqb (length (s.begun ++ new)) 512)
     either true = refl
     either false = refl
 
-read_ends : (s : Standing) (h : Heard) (behind : List ℕ) → (after_read s h behind).ended ≡ true → s.ended ≡ false → h ≡ Bytes 0
+read_ends : (s : Standing) (h : Option ℕ) (behind : List ℕ) → (after_read s h behind).ended ≡ true → s.ended ≡ false → h ≡ Some 0
 unfolding after_read broken
-read_ends s (Bytes zero) behind is not = refl
-read_ends s (Bytes (suc n)) behind is not =
+read_ends s (Some zero) behind is not = refl
+read_ends s (Some (suc n)) behind is not =
     let more : eqb (suc n) 0 ≡ false = ne_eqb (suc n) 0 (λ z. omega arith) in
     let there = rw more at is in
     absurd (true≢false (sym there ∙ received_ends s (take (suc n) behind) ∙ not))
-read_ends s Failed behind is not = absurd (true≢false (sym is ∙ not))
+read_ends s None behind is not = absurd (true≢false (sym is ∙ not))
 
 -- what was moved is what was asked
-module _ (place : ℕ) (limits : List Float) (begun : List ℕ) (h : Heard) (behind : List ℕ) where
+module _ (place : ℕ) (limits : List Float) (begun : List ℕ) (h : Option ℕ) (behind : List ℕ) where
   abbrev call : Call
   call = record { gave = h; behind = behind }
 
@@ -411,7 +241,7 @@ module _ (place : ℕ) (limits : List Float) (begun : List ℕ) (h : Heard) (beh
   write_moves left held₀ held [] false false e more = let z : ◌≡◌ {A = ℕ} 0 1 = cc in absurd (omega arith)
 
   pub read_moves : (left₀ left held : Option (List ℕ)) (pending : List ℕ) (ended failed : Bool) → Read ≡ next (mk place limits begun pending ended failed)
-      → Consumes left₀ left (take (count h) behind) → (h ≡ Bytes 0 → IsAtEnd left) → Moved (mk place limits begun pending ended failed) call left₀ left held held
+      → Consumes left₀ left (take (count h) behind) → (h ≡ Some 0 → IsAtEnd left) → Moved (mk place limits begun pending ended failed) call left₀ left held held
   unfolding next go_on reads writes
   read_moves left₀ left held pending ended true e more ends = let z : ◌≡◌ {A = ℕ} 0 1 = cc in absurd (omega arith)
   read_moves left₀ left held (x ∷ xs) ended false e more ends = let z : ◌≡◌ {A = ℕ} 0 1 = cc in absurd (omega arith)
@@ -423,47 +253,51 @@ module _ (place : ℕ) (limits : List Float) (begun : List ℕ) (h : Heard) (beh
         ends = λ is not. ends (read_ends (mk place limits begun [] false false) h behind is not);
       }
 
--- `held`, where that name is a variable's
-abbrev held_of : Bool → ℕ
-held_of = held
-
-module _ (p : Progress) (block : List ℕ) (limits : List Float) (out : List ℕ) {ask : Ask} (s : Sound p block out) (asked : Asked p ask) where
-  asked_here : ask ≡ next (standing p block limits out)
-  asked_here = asked block limits out s.in_order (omega (arith, s.in_buffer, s.whole_buffer))
-
+module _ (p : Progress) (w : Workspace) {ask : Ask} (s : Sound p w) (asked : ask ≡ next (standing p w)) where
   pending : List ℕ
-  pending = take (p.to - p.from) (drop p.from out)
+  pending = drop p.written w.lines.out.items
 
-  pub turned_stop : (left held : Option (List ℕ)) → ask ≡ Stop → Turned p block limits out p block limits out left left held held
+  room : p.filled + length (drop p.filled w.block) ≡ 512
+  room = rw (length-drop p.filled w.block) (omega (arith, s.whole_block, s.room_left))
+
+  pub turned_stop : (left held : Option (List ℕ)) → ask ≡ Stop → Turned p w p w left left held held
   unfolding pending
   turned_stop left held e =
-      let same = stop_stays p.place (take (held_of p.limited) limits) (take p.filled block) Failed (drop p.filled block) pending p.ended p.failed (sym e ∙ asked_here) in
+      let same = stop_stays p.place (numbers w.limits) (take p.filled w.block) None (drop p.filled w.block) pending p.ended p.failed (sym e ∙ asked) in
       record {
-        gave = Failed;
+        gave = None;
+        behind = drop p.filled w.block;
+        room = room;
         went = record { stands = sym same; sound = s; places = omega arith };
-        moved = stop_moves p.place (take (held_of p.limited) limits) (take p.filled block) Failed (drop p.filled block) left held pending p.ended p.failed (sym e ∙ asked_here);
+        moved = stop_moves p.place (numbers w.limits) (take p.filled w.block) None (drop p.filled w.block) left held pending p.ended p.failed (sym e ∙ asked);
       }
 
-  pub turned_write : (left held₀ held : Option (List ℕ)) (gave : Heard) {r : Progress} → ask ≡ Write → p.from + count gave ≤ p.to → r ≡ wrote p (count gave)
-      → Appends held₀ held (take (count gave) (take (p.to - p.from) (drop p.from out))) → Turned p block limits out r block limits out left left held₀ held
+  pub turned_write : (left held₀ held : Option (List ℕ)) (gave : Option ℕ) {r : Progress} → ask ≡ Write → p.written + count gave ≤ length w.lines.out.items → r ≡ wrote p (count gave)
+      → Appends held₀ held (take (count gave) (drop p.written w.lines.out.items)) → Turned p w r w left left held₀ held
   unfolding pending
-  turned_write left held₀ held gave e fits w more =
-      let goes = write_goes p.place (take (held_of p.limited) limits) (take p.filled block) gave (drop p.filled block) pending p.ended p.failed (sym e ∙ asked_here) in
+  turned_write left held₀ held gave e fits wr more =
+      let goes = write_goes p.place (numbers w.limits) (take p.filled w.block) gave (drop p.filled w.block) pending p.ended p.failed (sym e ∙ asked) in
       record {
         gave = gave;
-        went = rw (goes, w) (writes_on p block limits out s gave fits);
-        moved = write_moves p.place (take (held_of p.limited) limits) (take p.filled block) gave (drop p.filled block) left held₀ held pending p.ended p.failed (sym e ∙ asked_here) more;
+        behind = drop p.filled w.block;
+        room = room;
+        went = rw (goes, wr) (writes_on p w s gave fits);
+        moved = write_moves p.place (numbers w.limits) (take p.filled w.block) gave (drop p.filled w.block) left held₀ held pending p.ended p.failed (sym e ∙ asked) more;
       }
 
-  pub turned_read : (left₀ left held : Option (List ℕ)) (gave : Heard) (block' : List ℕ) {limits' : List Float} {out' : List ℕ} {r : Progress} → ask ≡ Read → take p.filled block' ≡ take p.filled block
-      → Consumes left₀ left (take (count gave) (drop p.filled block')) → (gave ≡ Bytes 0 → IsAtEnd left)
-      → Went (after_read (standing p block' limits out) gave (drop p.filled block')) r p.place block' limits' out' → Turned p block limits out r block' limits' out' left₀ left held held
+  -- `w₁` is the workspace after the read
+  pub turned_read : (left₀ left held : Option (List ℕ)) (gave : Option ℕ) (w₁ : Workspace) {w' : Workspace} {r : Progress} → ask ≡ Read
+      → length w₁.block ≡ length w.block → take p.filled w₁.block ≡ take p.filled w.block → w₁.limits ≡ w.limits → w₁.lines ≡ w.lines
+      → Consumes left₀ left (take (count gave) (drop p.filled w₁.block)) → (gave ≡ Some 0 → IsAtEnd left)
+      → Went (after_read (standing p w₁) gave (drop p.filled w₁.block)) r p.place w' → Turned p w r w' left₀ left held held
   unfolding pending
-  turned_read left₀ left held gave block' e same more ends w =
-      let goes = read_goes p.place (take (held_of p.limited) limits) (take p.filled block) gave (drop p.filled block') pending p.ended p.failed (sym e ∙ asked_here) in
-      let w' = rw same at w in
+  turned_read left₀ left held gave w₁ e long begun limits lines_left more ends went =
+      let goes = read_goes p.place (numbers w.limits) (take p.filled w.block) gave (drop p.filled w₁.block) pending p.ended p.failed (sym e ∙ asked) in
+      let went' = rw (begun, limits, lines_left) at went in
       record {
         gave = gave;
-        went = rw goes w';
-        moved = read_moves p.place (take (held_of p.limited) limits) (take p.filled block) gave (drop p.filled block') left₀ left held pending p.ended p.failed (sym e ∙ asked_here) more ends;
+        behind = drop p.filled w₁.block;
+        room = rw (length-drop p.filled w₁.block) (omega (arith, long, s.whole_block, s.room_left));
+        went = rw goes went';
+        moved = read_moves p.place (numbers w.limits) (take p.filled w.block) gave (drop p.filled w₁.block) left₀ left held pending p.ended p.failed (sym e ∙ asked) more ends;
       }

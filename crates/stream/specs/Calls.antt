@@ -4,11 +4,10 @@ use Rattle.std.specs.Io.KnownBytes.{Appends, Consumes, IsAtEnd}
 use Rattle.stream.specs.Standing.{Standing, start, some, count, next, go_on}
 use Rattle.stream.specs.Output.{output}
 use Rattle.stream.specs.declared.progress.Ask.TheVariants.{Stop}
-use Rattle.stream.specs.declared.progress.Heard.{Heard}
 
 -- a call: what it gave, and the bytes that then stand behind those begun
 pub record Call : Type 0 where
-  pub gave : Heard
+  pub gave : Option ℕ
   pub behind : List ℕ
 
 -- how the program stands after calls

@@ -1,12 +1,10 @@
 -- How the program stands between two calls of the system, and how it goes on after one. Calls.antt says what a run of calls prints, and proofs/Right.antt that it is the output.
-use Rattle.std.specs.Prelude.{ℕ, min, Bool, true, false, cond, List, [], ◌∷◌, ◌++◌, eqb, Float, Result, Ok, Err, length, take, drop}
+use Rattle.std.specs.Prelude.{ℕ, min, Bool, true, false, cond, List, [], ◌∷◌, ◌++◌, eqb, Float, Result, Ok, Err, Option, Some, None, length, take, drop}
 use Rattle.limits_block.specs.LimitsBlock.{in_force}
 use Rattle.lines.specs.Lines.{lines}
 use Rattle.stream.specs.Output.{place_after}
 use Rattle.stream.specs.declared.progress.Ask.{Ask}
 use Rattle.stream.specs.declared.progress.Ask.TheVariants.{Write, Read, Stop}
-use Rattle.stream.specs.declared.progress.Heard.{Heard}
-use Rattle.stream.specs.declared.progress.Heard.TheVariants.{Bytes, Failed}
 
 pub record Standing : Type 0 where
   -- the place of the block that is being read, and the limits in force
@@ -75,25 +73,25 @@ some (x ∷ rest) = true
 unfoldable pub next : Standing → Ask
 next s = cond s.failed Stop (cond (some s.pending) Write (cond s.ended Stop Read))
 
--- what a call of the system gave: an error where it failed, else how many bytes it moved, of at most so many
-abbrev pub heard : {E : Type 0} → Result ℕ E → ℕ → Heard
-heard (Ok k) most = Bytes (min k most)
-heard (Err e) most = Failed
+-- what a call of the system gave: how many bytes it moved, of at most so many, or nothing where it failed
+abbrev pub heard : {E : Type 0} → Result ℕ E → ℕ → Option ℕ
+heard (Ok k) most = Some (min k most)
+heard (Err e) most = None
 
 -- how many bytes it moved
-abbrev pub count : Heard → ℕ
-count (Bytes n) = n
-count Failed = 0
+abbrev pub count : Option ℕ → ℕ
+count (Some n) = n
+count None = 0
 
-unfoldable pub after_write : Standing → Heard → Standing
-after_write s (Bytes n) = delivered s n
-after_write s Failed = broken s
+unfoldable pub after_write : Standing → Option ℕ → Standing
+after_write s (Some n) = delivered s n
+after_write s None = broken s
 
 -- after a read that left these bytes behind those begun: as many of them as it says were read
-unfoldable pub after_read : Standing → Heard → List ℕ → Standing
-after_read s (Bytes n) behind = cond (eqb n 0) (closed s) (received s (take n behind))
-after_read s Failed behind = broken s
+unfoldable pub after_read : Standing → Option ℕ → List ℕ → Standing
+after_read s (Some n) behind = cond (eqb n 0) (closed s) (received s (take n behind))
+after_read s None behind = broken s
 
 -- after a call, which is the one that was asked; where none is, nothing happens
-unfoldable pub go_on : Standing → Heard → List ℕ → Standing
+unfoldable pub go_on : Standing → Option ℕ → List ℕ → Standing
 go_on s h behind = cond s.failed s (cond (some s.pending) (after_write s h) (cond s.ended s (after_read s h behind)))

@@ -1,28 +1,31 @@
 // What the program makes of each call of the system: from the bytes that were read so far and the
 // number that the call gave, what to print and how to go on.
-ghost use Rattle.std.specs.Prelude.{◌≡◌, true, false, cond, ◌+◌, ◌-◌, ◌≤◌, ◌<◌, ◌^◌, length, take, drop};
-ghost use Rattle.text.specs.Text.{Put};
-ghost use Rattle.lines.specs.Lines.{lines};
-ghost use Rattle.stream.specs.Standing.{full, received, closed, heard, count, after_read};
-ghost use Rattle.stream.specs.Progress.{held, standing, failing, wrote, Sound, Ready, Went, Asked};
+ghost use Rattle.std.specs.Prelude.{◌≡◌, cond, ◌+◌, ◌≤◌, ◌<◌, ◌^◌, length, take, drop};
+ghost use Rattle.limits_block.specs.LimitsBlock.{accepted, in_force};
+ghost use Rattle.stream.specs.Standing.{full, received, closed, heard, count, next, after_read};
+ghost use Rattle.stream.specs.Progress.{numbers, standing, wrote, Sound, Went};
 
 use limits_block::take_limits;
-use lines::{Buffer, lines};
+use lines::{Space, lines};
 use std::io;
 
-// Space for the limits in force: twelve numbers, where there are any.
-pub type Limits = [f64; 12];
+// What the program keeps of what it reads and of what it prints: space for a block, the limits in
+// force where there are any, and space for the answers of a block and for their lines.
+#[derive(Drop)]
+pub struct Workspace {
+    pub block: [u8; 512],
+    pub limits: Option<[f64; 12]>,
+    pub lines: Space,
+}
 
 // How the program stands between two calls: of the block at `place` the first `filled` bytes were
-// read; limits are in force exactly if it is `limited`; of the buffer the bytes from `from` to `to`
-// are still to be written, and as long as there are any nothing is read.
+// read; of the lines the first `written` bytes were written, and as long as there are more nothing
+// is read. (No enum of states: `ended` and `failed` may each hold with lines still to be written.)
 #[derive(Clone, Copy)]
 pub struct Progress {
     pub place: u64,
-    pub limited: bool,
     pub filled: usize,
-    pub from: usize,
-    pub to: usize,
+    pub written: usize,
     pub ended: bool,
     pub failed: bool,
 }
@@ -35,138 +38,71 @@ pub enum Ask {
     Stop,
 }
 
-// What a call of the system gave: how many bytes it moved, or that it failed.
-#[derive(Clone, Copy)]
-pub enum Heard {
-    Bytes(usize),
-    Failed,
-}
-
-// What a call gave for a part: how many of its bytes were moved, or that the call failed.
-pub fn hear(moved: io::Result<usize>, part: &[u8]) -> Heard
+// What a call gave for a part: how many of its bytes were moved, or none where the call failed.
+pub fn hear(moved: io::Result<usize>, part: &[u8]) -> Option<usize>
     ensures { result ≡ heard moved (length part.now) }
 {
     match moved {
-        Ok(n) => Heard::Bytes(n.min(part.len())),
-        Err(_) => Heard::Failed,
-    }
-}
-
-fn count(gave: Heard) -> usize
-    ensures { result ≡ count gave }
-{
-    match gave {
-        Heard::Bytes(n) => n,
-        Heard::Failed => 0,
-    }
-}
-
-// Before the first call.
-pub fn start() -> Progress
-    ensures { result ≡ (record { place = 0; limited = false; filled = 0; from = 0; to = 0; ended = false; failed = false }) }
-{
-    Progress {
-        place: 0,
-        limited: false,
-        filled: 0,
-        from: 0,
-        to: 0,
-        ended: false,
-        failed: false,
-    }
-}
-
-fn failing(p: Progress) -> Progress
-    ensures { result ≡ failing p }
-{
-    Progress {
-        place: p.place,
-        limited: p.limited,
-        filled: p.filled,
-        from: p.from,
-        to: p.to,
-        ended: p.ended,
-        failed: true,
+        Ok(n) => Some(n.min(part.len())),
+        Err(_) => None,
     }
 }
 
 // After a write; one that takes nothing has failed.
-pub fn after_write(p: Progress, gave: Heard) -> Progress
-    requires { p.from + count gave ≤ p.to }
+pub fn after_write(p: Progress, gave: Option<usize>, to: usize) -> Progress
+    requires { p.written + count gave ≤ to }
     ensures { result ≡ wrote p (count gave) }
 {
-    let took = count(gave);
+    let took = gave.unwrap_or(0);
     if took == 0 {
-        return failing(p);
+        return Progress { failed: true, ..p };
     }
     Progress {
-        place: p.place,
-        limited: p.limited,
-        filled: p.filled,
-        from: p.from + took,
-        to: p.to,
-        ended: p.ended,
-        failed: p.failed,
+        written: p.written + took,
+        ..p
     }
 }
 
-// How many of the numbers lent for limits are in force.
-fn held(limited: bool) -> usize
-    ensures { result ≡ held limited }
+// The limits in force.
+fn in_force(limits: &Option<[f64; 12]>) -> &[f64]
+    ensures { result.now ≡ numbers limits.now }
 {
-    if limited { 12 } else { 0 }
+    match limits {
+        Some(list) => list,
+        None => &[],
+    }
 }
 
-// The lines of a block, with the limits in force.
-fn print(
-    p: Progress,
-    block: &[u8],
-    limits: &[f64],
-    angles: &mut [f64],
-    flags: &mut [u8],
-    out: &mut Buffer,
-) -> usize
-    requires { (length limits.now ≡ 12) × (length angles.old ≡ 6144) × (length flags.old ≡ 1024) }
-    ensures put { Put (lines block.now p.place (take (held p.limited) limits.now)) 0 out.old out.new result }
-    ensures upper_bound { result ≤ 106608 }
+// Whether a block brings limits that are accepted, which are in force from here. (`take_limits`
+// writes over limits that are there; where there are none, there is no place to write to.)
+fn accept(block: &[u8], limits: &mut Option<[f64; 12]>) -> bool
+    ensures result { result ≡ accepted block.now }
+    ensures limits { numbers limits.new ≡ in_force block.now (numbers limits.old) }
 {
-    let held = held(p.limited);
-    lines(block, p.place, &limits[..held], angles, flags, out)
+    let mut brought = [0.0; 12];
+    let taken = take_limits(block, &mut brought);
+    if taken {
+        *limits = Some(brought);
+    }
+    taken
 }
 
 // The input has ended: a block that was begun is a short last one.
-fn close(
-    p: Progress,
-    block: &[u8],
-    limits: &Limits,
-    angles: &mut [f64],
-    flags: &mut [u8],
-    out: &mut Buffer,
-) -> Progress
-    requires { Ready p block.now out.old angles.old flags.old }
-    ensures { Went (closed (standing p block.now limits.now out.old)) result p.place block.now limits.now out.new }
+fn close(p: Progress, w: &mut Workspace) -> Progress
+    requires { Sound p w.old }
+    ensures { Went (closed (standing p w.old)) result p.place w.new }
 {
-    let filled = p.filled;
-    if filled == 0 {
-        return Progress {
-            place: p.place,
-            limited: p.limited,
-            filled: 0,
-            from: 0,
-            to: 0,
-            ended: true,
-            failed: p.failed,
-        };
+    if p.filled == 0 {
+        w.lines.out.clear();
+    } else {
+        let limits = in_force(&w.limits);
+        lines(&w.block[..p.filled], p.place, limits, &mut w.lines);
     }
-    let m = print(p, &block[..filled], limits, angles, flags, out);
     Progress {
-        place: p.place,
-        limited: p.limited,
         filled: 0,
-        from: 0,
-        to: m,
+        written: 0,
         ended: true,
-        failed: p.failed,
+        ..p
     }
 }
 
@@ -179,91 +115,62 @@ fn place_after(place: u64, accepted: bool) -> u64
 }
 
 // A block is full: its lines are to be written, and limits that it brings are in force from here.
-fn fill(
-    p: Progress,
-    block: &[u8],
-    limits: &mut Limits,
-    angles: &mut [f64],
-    flags: &mut [u8],
-    out: &mut Buffer,
-) -> Progress
-    requires { Ready p block.now out.old angles.old flags.old × (p.place + 1 < 2 ^ 64) }
-    ensures { Went (full (standing p block.now limits.old out.old) block.now) result p.place block.now limits.new out.new }
+fn fill(p: Progress, w: &mut Workspace) -> Progress
+    requires { Sound p w.old × (p.place + 1 < 2 ^ 64) }
+    ensures { Went (full (standing p w.old) w.old.block) result p.place w.new }
 {
-    let m = print(p, block, limits, angles, flags, out);
-    let accepted = take_limits(block, limits);
+    lines(&w.block, p.place, in_force(&w.limits), &mut w.lines);
+    let accepted = accept(&w.block, &mut w.limits);
     Progress {
         place: place_after(p.place, accepted),
-        limited: p.limited | accepted,
         filled: 0,
-        from: 0,
-        to: m,
-        ended: p.ended,
-        failed: p.failed,
+        written: 0,
+        ..p
     }
 }
 
 // n bytes more were read.
-fn take_in(
-    p: Progress,
-    n: usize,
-    block: &[u8],
-    limits: &mut Limits,
-    angles: &mut [f64],
-    flags: &mut [u8],
-    out: &mut Buffer,
-) -> Progress
-    requires { Ready p block.now out.old angles.old flags.old × (p.filled + n ≤ 512) × (p.place + 1 < 2 ^ 64) }
-    ensures { Went (received (standing p block.now limits.old out.old) (take n (drop p.filled block.now))) result p.place block.now limits.new out.new }
+fn take_in(p: Progress, n: usize, w: &mut Workspace) -> Progress
+    requires { Sound p w.old × (p.filled + n ≤ 512) × (p.place + 1 < 2 ^ 64) }
+    ensures { Went (received (standing p w.old) (take n (drop p.filled w.old.block))) result p.place w.new }
 {
     let filled = p.filled + n;
     if filled == 512 {
-        return fill(p, block, limits, angles, flags, out);
+        return fill(p, w);
     }
+    w.lines.out.clear();
     Progress {
-        place: p.place,
-        limited: p.limited,
-        filled: filled,
-        from: 0,
-        to: 0,
-        ended: p.ended,
-        failed: p.failed,
+        filled,
+        written: 0,
+        ..p
     }
 }
 
 // After a read.
-pub fn after_read(
-    p: Progress,
-    gave: Heard,
-    block: &[u8],
-    limits: &mut Limits,
-    angles: &mut [f64],
-    flags: &mut [u8],
-    out: &mut Buffer,
-) -> Progress
-    requires { Ready p block.now out.old angles.old flags.old × (p.filled + count gave ≤ 512) × (p.place + 1 < 2 ^ 64) }
-    ensures { Went (after_read (standing p block.now limits.old out.old) gave (drop p.filled block.now)) result p.place block.now limits.new out.new }
+pub fn after_read(p: Progress, gave: Option<usize>, w: &mut Workspace) -> Progress
+    requires { Sound p w.old × (p.filled + count gave ≤ 512) × (p.place + 1 < 2 ^ 64) }
+    ensures { Went (after_read (standing p w.old) gave (drop p.filled w.old.block)) result p.place w.new }
 {
     match gave {
-        Heard::Failed => failing(p),
-        Heard::Bytes(n) => {
+        None => Progress { failed: true, ..p },
+        Some(n) => {
             if n == 0 {
-                close(p, block, limits, angles, flags, out)
+                close(p, w)
             } else {
-                take_in(p, n, block, limits, angles, flags, out)
+                take_in(p, n, w)
             }
         }
     }
 }
 
 // Lines are written before anything more is read; nothing is asked after a failure, nor at the end.
-pub fn next(p: Progress) -> Ask
-    ensures { Asked p result }
+pub fn next(p: Progress, w: &Workspace) -> Ask
+    ensures { result ≡ next (standing p w.now) }
 {
     if p.failed {
         return Ask::Stop;
     }
-    if p.from < p.to {
+    if p.written < w.lines.out.len() {
         return Ask::Write;
     }
     if p.ended { Ask::Stop } else { Ask::Read }

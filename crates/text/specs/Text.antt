@@ -1,8 +1,7 @@
 -- Text as bytes: what is printed of numbers.
-use Rattle.std.specs.Prelude.{ℕ, zero, suc, ◌+◌, ◌/◌, ◌%◌, ◌≡◌, cond, List, [], ◌∷◌, ◌++◌, ltb, length, Float}
+use Rattle.std.specs.Prelude.{ℕ, zero, suc, ◌+◌, ◌/◌, ◌%◌, cond, List, [], ◌∷◌, ◌++◌, ltb, Float}
 use Prim.Native.Char.{code}
 use Prim.Native.String.{String, [] as []ˢ, ◌∷◌ as ◌∷ˢ◌}
-use Rattle.std.proofs.lemmas.List.Edits.{sets}
 use Rattle.std.specs.Float.{binary64}
 use Rattle.std.specs.Float.Ieee.{to_bits}
 
@@ -32,8 +31,3 @@ decimal n = digits 10 (places 19 n) n
 -- "16 hexadecimal digits of their bits in lower case". The bits of every NaN are 7ff8000000000000.
 unfoldable pub hex : Float → List ℕ
 hex x = digits 16 16 (to_bits binary64 x)
-
--- what a function that writes a text from `at` on leaves of the buffer, and the place after the text
-pub record Put (bytes : List ℕ) (at : ℕ) (out₀ out : List ℕ) (next : ℕ) : Type 0 where
-  pub all_bytes : out ≡ sets out₀ at bytes
-  pub all_counted : next ≡ at + length bytes

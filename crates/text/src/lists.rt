@@ -1,10 +1,10 @@
 // The lines of a block, from its numbers and the two lists.
-ghost use Rattle.std.specs.Prelude.{◌≡◌, ◌+◌, ◌*◌, ◌≤◌, ◌<◌, min, length};
+ghost use Rattle.std.specs.Prelude.{◌≡◌, ◌++◌, ◌+◌, ◌*◌, ◌≤◌, ◌<◌, min, length};
 ghost use mathlib.Core.List.{flat_map};
-ghost use Rattle.text.specs.Text.{Put};
+ghost use Rattle.arrayvec.specs.ArrayVec.{array_vec_len};
 ghost use Rattle.text.specs.Lists.{field, head, angle, line_at, lines_of};
 
-use crate::text::{Buffer, decimal, hex, put, spell};
+use crate::text::{Buffer, decimal, glyph, hex, put};
 
 // How many answers there are lines for.
 const SPACE: usize = 1024;
@@ -12,76 +12,68 @@ const SPACE: usize = 1024;
 pub fn shown(answers: usize) -> usize
     ensures { result ≡ min answers 1024 }
 {
-    if answers < SPACE { answers } else { SPACE }
+    answers.min(SPACE)
 }
 
-fn field(out: &mut Buffer, at: usize, name: &[u8], n: u64) -> usize
-    requires { at + length name.now + 20 ≤ 106608 }
-    ensures put { Put (field name.now n) at out.old out.new result }
-    ensures upper_bound { result ≤ at + length name.now + 20 }
+fn field(out: &mut Buffer, name: &[u8], n: u64)
+    requires { array_vec_len out.old + length name.now + 20 ≤ 106608 }
+    ensures items { out.new.items ≡ out.old.items ++ field name.now n }
+    ensures len { array_vec_len out.new ≤ array_vec_len out.old + length name.now + 20 }
 {
-    let m = put(out, at, name);
-    decimal(out, m, n)
+    put(out, name);
+    decimal(out, n);
 }
 
-// The first line, at the start of the buffer.
-pub fn head(out: &mut Buffer, place: u64, refusal: u64, answers: u64, evals: u64) -> usize
-    ensures put { Put (head place refusal answers evals) 0 out.old out.new result }
-    ensures upper_bound { result ≤ 112 }
+// The first line, alone in the buffer.
+pub fn head(out: &mut Buffer, place: u64, refusal: u64, answers: u64, evals: u64)
+    ensures items { out.new.items ≡ head place refusal answers evals }
+    ensures len { array_vec_len out.new ≤ 112 }
 {
-    let a = field(out, 0, b"block ", place);
-    let b = field(out, a, b" refusal ", refusal);
-    let c = field(out, b, b" answers ", answers);
-    let d = field(out, c, b" evals ", evals);
-    put(out, d, b"\n")
+    out.clear();
+    field(out, b"block ", place);
+    field(out, b" refusal ", refusal);
+    field(out, b" answers ", answers);
+    field(out, b" evals ", evals);
+    out.push(b'\n');
 }
 
-fn angle(out: &mut Buffer, at: usize, x: f64) -> usize
-    requires { at + 17 ≤ 106608 }
-    ensures put { Put (angle x) at out.old out.new result }
-    ensures value { result ≡ at + 17 }
+fn angle(out: &mut Buffer, x: f64)
+    requires { array_vec_len out.old + 17 ≤ 106608 }
+    ensures items { out.new.items ≡ out.old.items ++ angle x }
+    ensures len { array_vec_len out.new ≡ array_vec_len out.old + 17 }
 {
-    let m = hex(out, at, x);
-    put(out, m, b" ")
+    hex(out, x);
+    out.push(b' ');
 }
 
-fn angles(out: &mut Buffer, at: usize, list: &[f64]) -> usize
-    requires { at + 17 * length list.now ≤ 106608 }
-    ensures put { Put (flat_map angle list.now) at out.old out.new result }
-    ensures value { result ≡ at + 17 * length list.now }
+fn angles(out: &mut Buffer, list: &[f64])
+    requires { array_vec_len out.old + 17 * length list.now ≤ 106608 }
+    ensures items { out.new.items ≡ out.old.items ++ flat_map angle list.now }
+    ensures len { array_vec_len out.new ≡ array_vec_len out.old + 17 * length list.now }
 {
-    let mut m = at;
-    let mut i = 0;
-    while i < list.len() {
-        m = angle(out, m, list[i]);
-        i += 1;
+    for x in list {
+        angle(out, *x);
     }
-    m
 }
 
-fn line_at(out: &mut Buffer, at: usize, list: &[f64], flags: &[u8], i: usize) -> usize
-    requires { (at + 104 ≤ 106608) × (6 * i + 6 ≤ length list.now) × (i < length flags.now) }
-    ensures put { Put (line_at list.now flags.now i) at out.old out.new result }
-    ensures value { result ≡ at + 104 }
+fn line_at(out: &mut Buffer, list: &[f64], flags: &[u8], i: usize)
+    requires { (array_vec_len out.old + 104 ≤ 106608) × (6 * i + 6 ≤ length list.now) × (i < length flags.now) }
+    ensures items { out.new.items ≡ out.old.items ++ line_at list.now flags.now i }
+    ensures len { array_vec_len out.new ≡ array_vec_len out.old + 104 }
 {
     let from = 6 * i;
-    let to = from + 6;
-    let m = angles(out, at, &list[from..to]);
-    let e = spell(out, m, 10, 1, words::byte(flags, i));
-    put(out, e, b"\n")
+    angles(out, &list[from..from + 6]);
+    out.push(glyph(u64::from(flags[i]) % 10));
+    out.push(b'\n');
 }
 
 // The lines of the first n answers.
-pub fn lines_of(out: &mut Buffer, at: usize, list: &[f64], flags: &[u8], n: usize) -> usize
-    requires { (at + 104 * n ≤ 106608) × (6 * n ≤ length list.now) × (n ≤ length flags.now) }
-    ensures put { Put (lines_of list.now flags.now n) at out.old out.new result }
-    ensures value { result ≡ at + 104 * n }
+pub fn lines_of(out: &mut Buffer, list: &[f64], flags: &[u8], n: usize)
+    requires { (array_vec_len out.old + 104 * n ≤ 106608) × (6 * n ≤ length list.now) × (n ≤ length flags.now) }
+    ensures items { out.new.items ≡ out.old.items ++ lines_of list.now flags.now n }
+    ensures len { array_vec_len out.new ≡ array_vec_len out.old + 104 * n }
 {
-    let mut m = at;
-    let mut i = 0;
-    while i < n {
-        m = line_at(out, m, list, flags, i);
-        i += 1;
+    for i in 0..n {
+        line_at(out, list, flags, i);
     }
-    m
 }

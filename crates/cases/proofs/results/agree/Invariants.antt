@@ -5,6 +5,3 @@ use Rattle.cases.proofs.results.agree.Given as goal
 
 abbrev pub invariant-loop-k : goal.invariant-loop-k
 invariant-loop-k l = (l.k ≤ length l.results) × (agree l.bytes l.i (length l.results - l.k) l.k l.results ≡ agree l.bytes l.i (length l.results) 0 l.results)
-
-abbrev pub decreases-loop-k : goal.decreases-loop-k
-decreases-loop-k l = length l.results - l.k

@@ -1,10 +1,9 @@
 -- `serve`: each turn is one call more.
-use Rattle.std.proofs.Common.{arith, rules}
 use Rattle.stream.proofs.Reached.{none_made, one_more, served_out, served_all, copied}
 use Rattle.stream.proofs.calls.serve.Goals as goal
 
 pub loop-calls-init : goal.loop-calls-init
-loop-calls-init g c = (omega arith, omega arith, omega arith, omega arith, search none_made)
+loop-calls-init g c = search none_made
 
 pub returns-in-Stop-clause-served : goal.returns-in-Stop-clause-served
 returns-in-Stop-clause-served g c = search served_all
@@ -12,11 +11,8 @@ returns-in-Stop-clause-served g c = search served_all
 pub returns-in-Stop-clause-copied : goal.returns-in-Stop-clause-copied
 returns-in-Stop-clause-copied g c = search copied
 
-pub turn-p-requires : goal.turn-p-requires
-turn-p-requires g c = (search rules, omega arith, search rules)
-
 pub loop-calls-preserved : goal.loop-calls-preserved
-loop-calls-preserved g c = (omega arith, omega arith, omega arith, omega arith, search one_more)
+loop-calls-preserved g c = search one_more
 
 pub returns-clause-served : goal.returns-clause-served
 returns-clause-served g c = search served_out

@@ -5,11 +5,11 @@ use Rattle.stream.proofs.progress.next.Goals as goal
 pub returns-then-p : goal.returns-then-p
 returns-then-p c = search asks_none
 
+pub returns-then-p-len : goal.returns-then-p-len
+returns-then-p-len c = asks_write c.args.p c.args.w.now c.if-p.false (rw c.len.ensures.value at c.if-p-len.true)
+
 pub returns-then-p-2 : goal.returns-then-p-2
-returns-then-p-2 c = search asks_write
+returns-then-p-2 c = asks_end c.args.p c.args.w.now c.if-p.false (rw c.len.ensures.value at c.if-p-len.false) c.if-p-2.true
 
-pub returns-then-p-3 : goal.returns-then-p-3
-returns-then-p-3 c = search asks_end
-
-pub returns-else-p-3 : goal.returns-else-p-3
-returns-else-p-3 c = search asks_read
+pub returns-else-p-2 : goal.returns-else-p-2
+returns-else-p-2 c = asks_read c.args.p c.args.w.now c.if-p.false (rw c.len.ensures.value at c.if-p-len.false) c.if-p-2.false

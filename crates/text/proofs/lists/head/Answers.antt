@@ -1,21 +1,27 @@
 -- Four words with their numbers, and the end of the line.
-use Prim.Native.Nat.{ℕ}
-use mathlib.Core.List.{List}
-use borrow.Author.Rules.{rules}
-use Rattle.text.specs.Text.{text, Put}
+use Rattle.std.proofs.Common.{◌≡◌, ℕ, List, ◌++◌}
+use Rattle.text.specs.Text.{text}
 use Rattle.text.specs.Lists.{field, head}
 use Rattle.text.proofs.Laws.{both}
 use Rattle.text.proofs.lists.head.Goals as goal
 
-met : (place refusal answers evals : ℕ) {l l1 l2 l3 l4 l5 : List ℕ} {a b c d r : ℕ}
-    → Put (field (text "block ") place) 0 l l1 a
-    → Put (field (text " refusal ") refusal) a l1 l2 b
-    → Put (field (text " answers ") answers) b l2 l3 c
-    → Put (field (text " evals ") evals) c l3 l4 d
-    → Put (text "\n") d l4 l5 r
-    → Put (head place refusal answers evals) 0 l l5 r
-unfolding head
-met place refusal answers evals p1 p2 p3 p4 p5 = both (both (both (both p1 p2) p3) p4) p5
+module _ (place refusal answers evals : ℕ) where
+  abbrev one : List ℕ
+  one = field (text "block ") place
 
-pub returns : goal.returns
-returns c = record { put = search met; upper_bound = search rules }
+  abbrev two : List ℕ
+  two = field (text " refusal ") refusal
+
+  abbrev three : List ℕ
+  three = field (text " answers ") answers
+
+  abbrev four : List ℕ
+  four = field (text " evals ") evals
+
+  met : (l : List ℕ) {l1 l2 l3 l4 l5 : List ℕ} → l1 ≡ l ++ one → l2 ≡ l1 ++ two → l3 ≡ l2 ++ three → l4 ≡ l3 ++ four → l5 ≡ l4 ++ text "\n" → l5 ≡ l ++ head place refusal answers evals
+  unfolding head
+  met l p1 p2 p3 p4 p5 = both (one ++ two ++ three ++ four) (text "\n") l (both (one ++ two ++ three) four l (both (one ++ two) three l (both one two l p1 p2) p3) p4) p5
+
+pub returns-clause-items : goal.returns-clause-items
+returns-clause-items c =
+    rw c.clear.ensures at (met _ _ _ _ _ c.field.ensures.items c.field-2.ensures.items c.field-3.ensures.items c.field-4.ensures.items c.push.ensures.items)
