@@ -1,31 +1,33 @@
 // Families 1 to 5. An arm is 39 numbers and a pose 12, as in document 01.
+ghost use Rattle.std.specs.Prelude.{◌≡◌};
 ghost use Rattle.answers.specs.Written.{Wrote};
 ghost use Rattle.calls_c.specs.Numbered.{by_number, family_answers};
 
+use answers::Answer;
+use arrayvec::ArrayVec;
 use kinematics::Kinematics;
 use linear::{Matrix3, Vector3};
 
 // What subproblem1 flags by.
 const TOLERANCE: f64 = 1e-6;
 
+#[tactic(auto, unfolding(crate::specs::Numbered::by_number))]
 fn by_number(
     id: u64,
     r: Matrix3,
     p: Vector3,
     kin: Kinematics,
     tolerance: f64,
-    angles: &mut [f64],
-    flags: &mut [u8],
-) -> usize
-    ensures { Wrote (by_number id r p kin tolerance) angles.old flags.old angles.new flags.new result }
+) -> ArrayVec<Answer, 8>
+    ensures { result.items ≡ by_number id r p kin tolerance }
 {
     match id {
-        1 => families::spherical_two_parallel(r, p, kin, tolerance, angles, flags),
-        2 => families::spherical_two_intersecting(r, p, kin, tolerance, angles, flags),
-        3 => families::spherical(r, p, kin, tolerance, angles, flags),
-        4 => families::three_parallel_two_intersecting(r, p, kin, tolerance, angles, flags),
-        5 => families::three_parallel(r, p, kin, tolerance, angles, flags),
-        _ => 0,
+        1 => families::spherical_two_parallel(r, p, kin, tolerance),
+        2 => families::spherical_two_intersecting(r, p, kin, tolerance),
+        3 => families::spherical(r, p, kin, tolerance),
+        4 => families::three_parallel_two_intersecting(r, p, kin, tolerance),
+        5 => families::three_parallel(r, p, kin, tolerance),
+        _ => ArrayVec::new(),
     }
 }
 
@@ -42,5 +44,5 @@ pub fn family(
     let kin = kinematics::from_numbers(arm);
     let r = kinematics::pose_rotation(pose);
     let p = kinematics::pose_place(pose);
-    by_number(id, r, p, kin, TOLERANCE, angles, flags)
+    answers::write(&by_number(id, r, p, kin, TOLERANCE), angles, flags)
 }

@@ -45,5 +45,5 @@ pub fn bench_family(
 pub fn bench_forward_kinematics(arm: &[f64; 39], angles: &[f64; 6], pose: &mut [f64; 12])
     ensures { pose.new ≡ forward_pose arm.now angles.now pose.old }
 {
-    forward::forward(arm, angles, pose);
+    let _ = forward::forward(arm, angles, pose);
 }

@@ -1,9 +1,10 @@
 // The functions of polynomial, qr and ellipse.
 ghost use Rattle.std.specs.Prelude.{◌+◌, ◌≤◌};
 
-use crate::shapes::{put, put_pairs, put_two, put_vector, vector};
+use crate::shapes::{put, put_pairs, put_two, put_vector, slot, vector};
+use arrayvec::ArrayVec;
 use complex::Complex;
-use polynomial::{Cubic, Matrix2, Quadratic, Quartic, Roots, Vector2, Vector5};
+use polynomial::{Cubic, Matrix2, Quadratic, Quartic, Vector2, Vector5};
 use qr::Vector4;
 
 fn vector2(args: &[f64; 40], i: usize) -> Vector2
@@ -60,13 +61,11 @@ fn put_complex(out: &mut [u64; 23], i: usize, z: Complex)
     put_two(out, i, z.re, z.im);
 }
 
-fn put_roots(out: &mut [u64; 23], found: Roots) {
-    let slots = found.slots;
-    out[0] = found.count as u64;
-    put_complex(out, 1, slots[0]);
-    put_complex(out, 3, slots[1]);
-    put_complex(out, 5, slots[2]);
-    put_complex(out, 7, slots[3]);
+fn put_roots(out: &mut [u64; 23], found: &ArrayVec<Complex, 4>) {
+    out[0] = found.len() as u64;
+    for i in 0..4 {
+        put_complex(out, 1 + 2 * i, slot(found, i));
+    }
 }
 
 // Row i of Q from its columns.
@@ -98,7 +97,7 @@ fn solve_quartic_roots(args: &[f64; 40], out: &mut [u64; 23]) {
         d: complex_at(args, 6),
         e: complex_at(args, 8),
     });
-    put_roots(out, found);
+    put_roots(out, &found);
 }
 
 fn solve_cubic_roots(args: &[f64; 40], out: &mut [u64; 23]) {
@@ -108,7 +107,7 @@ fn solve_cubic_roots(args: &[f64; 40], out: &mut [u64; 23]) {
         c: complex_at(args, 4),
         d: complex_at(args, 6),
     });
-    put_roots(out, found);
+    put_roots(out, &found);
 }
 
 fn solve_quadratic_roots(args: &[f64; 40], out: &mut [u64; 23]) {
@@ -117,7 +116,7 @@ fn solve_quadratic_roots(args: &[f64; 40], out: &mut [u64; 23]) {
         b: complex_at(args, 2),
         c: complex_at(args, 4),
     });
-    put_roots(out, found);
+    put_roots(out, &found);
 }
 
 fn solve_lower_triangular_system_2x2(args: &[f64; 40], out: &mut [u64; 23]) {

@@ -1,8 +1,9 @@
 // How values of several kinds stand among plain numbers.
 ghost use Rattle.std.specs.Prelude.{◌+◌, ◌≤◌};
 
+use arrayvec::ArrayVec;
 use linear::Vector3;
-use solutionset::{Pair, PairSet4};
+use solutionset::{Pair, SolutionSet4};
 
 pub(crate) fn vector(args: &[f64; 40], i: usize) -> Vector3
     requires { i + 3 ≤ 40 }
@@ -41,12 +42,15 @@ pub(crate) fn put_pair(out: &mut [u64; 23], i: usize, p: Pair)
     put_two(out, i, p.first, p.second);
 }
 
-pub(crate) fn put_pairs(out: &mut [u64; 23], set: PairSet4) {
+// The member i, and zeros in a slot that is not used.
+pub(crate) fn slot<T: Copy + Default, const N: usize>(all: &ArrayVec<T, N>, i: usize) -> T {
+    if i < all.len() { all[i] } else { T::default() }
+}
+
+pub(crate) fn put_pairs(out: &mut [u64; 23], set: SolutionSet4<Pair>) {
     let all = set.get_all();
-    let slots = all.slots;
-    out[0] = all.count as u64;
-    put_pair(out, 1, slots[0]);
-    put_pair(out, 3, slots[1]);
-    put_pair(out, 5, slots[2]);
-    put_pair(out, 7, slots[3]);
+    out[0] = all.len() as u64;
+    for i in 0..4 {
+        put_pair(out, 1 + 2 * i, slot(&all, i));
+    }
 }

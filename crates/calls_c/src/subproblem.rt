@@ -1,12 +1,12 @@
 // The subproblems, and the choice among subproblem 5's candidates.
 ghost use Rattle.std.specs.Prelude.{◌+◌, ◌≤◌};
 
-use crate::shapes::{put, put_pair, put_pairs, put_two, vector};
+use crate::shapes::{put, put_pair, put_pairs, put_two, slot, vector};
+use arrayvec::ArrayVec;
 use float::SinCos;
 use linear::Vector3;
-use solutionset::{SinCosSet2, Triple, TripleSet4};
+use solutionset::{SolutionSet2, SolutionSet4, Triple};
 use subproblems::Solved2;
-use subproblems_sc::SolvedSinCos2;
 
 fn triple(args: &[f64; 40], i: usize) -> Triple
     requires { i + 3 ≤ 40 }
@@ -35,22 +35,18 @@ fn put_triple(out: &mut [u64; 23], i: usize, t: Triple)
     put(out, i + 2, t.third);
 }
 
-fn put_triples(out: &mut [u64; 23], set: TripleSet4) {
+fn put_triples(out: &mut [u64; 23], set: SolutionSet4<Triple>) {
     let all = set.get_all();
-    let slots = all.slots;
-    out[0] = all.count as u64;
-    put_triple(out, 1, slots[0]);
-    put_triple(out, 4, slots[1]);
-    put_triple(out, 7, slots[2]);
-    put_triple(out, 10, slots[3]);
+    out[0] = all.len() as u64;
+    for i in 0..4 {
+        put_triple(out, 1 + 3 * i, slot(&all, i));
+    }
 }
 
-fn put_solved(out: &mut [u64; 23], s: Solved2) {
-    let set = s.set;
-    let all = set.get_all();
-    let slots = all.slots;
-    out[0] = all.count as u64;
-    put_two(out, 1, slots[0], slots[1]);
+fn put_solved(out: &mut [u64; 23], s: Solved2<f64>) {
+    let all = s.set.get_all();
+    out[0] = all.len() as u64;
+    put_two(out, 1, slot(&all, 0), slot(&all, 1));
     out[3] = s.is_ls as u64;
 }
 
@@ -60,14 +56,14 @@ fn put_sin_cos(out: &mut [u64; 23], i: usize, p: SinCos)
     put_two(out, i, p.sin, p.cos);
 }
 
-fn put_sin_cos_set(out: &mut [u64; 23], set: SinCosSet2) {
+fn put_sin_cos_set(out: &mut [u64; 23], set: SolutionSet2<SinCos>) {
     match set {
-        SinCosSet2::Zero => {}
-        SinCosSet2::One(p) => {
+        SolutionSet2::Zero => {}
+        SolutionSet2::One(p) => {
             out[0] = 1;
             put_sin_cos(out, 1, p);
         }
-        SinCosSet2::Two(p, q) => {
+        SolutionSet2::Two(p, q) => {
             out[0] = 2;
             put_sin_cos(out, 1, p);
             put_sin_cos(out, 3, q);
@@ -75,9 +71,8 @@ fn put_sin_cos_set(out: &mut [u64; 23], set: SinCosSet2) {
     }
 }
 
-fn put_solved_sin_cos(out: &mut [u64; 23], s: SolvedSinCos2) {
-    let set = s.set;
-    put_sin_cos_set(out, set);
+fn put_solved_sin_cos(out: &mut [u64; 23], s: Solved2<SinCos>) {
+    put_sin_cos_set(out, s.set);
     out[5] = s.is_ls as u64;
 }
 
@@ -94,12 +89,10 @@ fn subproblem2(args: &[f64; 40], out: &mut [u64; 23]) {
         vector(args, 6),
         vector(args, 9),
     );
-    let set = s.set;
-    let all = set.get_all();
-    let slots = all.slots;
-    out[0] = all.count as u64;
-    put_pair(out, 1, slots[0]);
-    put_pair(out, 3, slots[1]);
+    let all = s.set.get_all();
+    out[0] = all.len() as u64;
+    put_pair(out, 1, slot(&all, 0));
+    put_pair(out, 3, slot(&all, 1));
     out[5] = s.is_ls as u64;
 }
 
@@ -135,7 +128,7 @@ fn subproblem6(args: &[f64; 40], out: &mut [u64; 23]) {
 
 fn subproblem1_sc(args: &[f64; 40], out: &mut [u64; 23]) {
     let s = subproblems_sc::subproblem1_sc(vector(args, 0), vector(args, 3), vector(args, 6));
-    put_sin_cos(out, 0, s.sc);
+    put_sin_cos(out, 0, s.theta);
     out[2] = s.is_ls as u64;
 }
 
@@ -175,27 +168,14 @@ pub(crate) fn subproblem(id: u64, args: &[f64; 40], out: &mut [u64; 23]) {
 }
 
 // The triples from the second argument on.
-fn triples(args: &[f64; 40]) -> [Triple; 16] {
-    let none = Triple {
-        first: 0.0,
-        second: 0.0,
-        third: 0.0,
-    };
-    let t0 = triple(args, 1);
-    let t1 = triple(args, 4);
-    let t2 = triple(args, 7);
-    let t3 = triple(args, 10);
-    let t4 = triple(args, 13);
-    let t5 = triple(args, 16);
-    let t6 = triple(args, 19);
-    let t7 = triple(args, 22);
-    let t8 = triple(args, 25);
-    let t9 = triple(args, 28);
-    let t10 = triple(args, 31);
-    let t11 = triple(args, 34);
-    [
-        t0, t1, t2, t3, t4, t5, t6, t7, t8, t9, t10, t11, none, none, none, none,
-    ]
+fn triples(args: &[f64; 40], count: u64) -> ArrayVec<Triple, 16>
+    requires { count ≤ 12 }
+{
+    let mut all = ArrayVec::new();
+    for i in 0..count as usize {
+        all.push(triple(args, 1 + 3 * i));
+    }
+    all
 }
 
 // Number 10, whose first argument is a whole number: that of the triples. More than its records have
@@ -205,8 +185,5 @@ pub(crate) fn reduced_solutionset(count: u64, args: &[f64; 40], out: &mut [u64; 
         out[0] = u64::MAX;
         return;
     }
-    put_triples(
-        out,
-        subproblem5::reduced_solutionset(triples(args), count as usize),
-    );
+    put_triples(out, subproblem5::reduced_solutionset(&triples(args, count)));
 }

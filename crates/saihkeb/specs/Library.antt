@@ -3,7 +3,7 @@ use Rattle.std.specs.Prelude.{ℕ, ◌≡◌, List, [], ◌∷◌, Float}
 use Rattle.std.proofs.lemmas.List.Edits.{sets}
 use Rattle.answers.specs.Answer.{six, byte}
 use Rattle.answers.specs.declared.Answer.{Answer}
-use Rattle.solve.specs.declared.Solved.{Solved}
+use Rattle.solve.specs.InNumbers.{Solved}
 use Rattle.one_answer.specs.OneAnswer.{Gives}
 
 -- the two counts of a call: the answers inside the limits, then the evaluations

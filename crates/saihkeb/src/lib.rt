@@ -11,26 +11,30 @@ ghost use Rattle.answers.specs.Answer.{six, flag, byte};
 ghost use Rattle.answers.specs.Rows.{room_of, written_of, flagged_of};
 ghost use Rattle.answers.specs.Written.{room, written, flagged};
 ghost use Rattle.solve.specs.Solve.{answers, solve};
+ghost use Rattle.solve.specs.InNumbers.{in_numbers};
 ghost use Rattle.solve_block.specs.SolveBlock.{solve_block, block_answers};
 ghost use Rattle.track.specs.Sevens.{sevens};
 ghost use Rattle.track.specs.Track.{track_answers, solve_track};
 ghost use Rattle.arms.specs.Arm.{numbered, put, find, take_out, compact};
 ghost use Rattle.arms.specs.File.{refusal, gives, after};
 ghost use Rattle.limits_block.specs.LimitsBlock.{limits_refusal, in_force};
+ghost use Rattle.one_answer.specs.OneAnswer.{one_of};
 ghost use Rattle.forward.specs.Forward.{forward_refusal, forward_pose};
 ghost use Rattle.saihkeb.specs.Library.{counts_of, Told};
 
-use one_answer::One;
+use answers::Answer;
+use one_answer::answer_or_zeros;
+use refusals::{Refusal, number_of};
 use solve::Solved;
 
 // The refusal as the result; the number of answers and of evaluations to the counts.
 fn report(s: Solved, counts: &mut [u64; 2]) -> u64
-    ensures value { result ≡ s.refusal }
-    ensures counts { counts.new ≡ sets counts.old 0 (counts_of s) }
+    ensures value { result ≡ (in_numbers s).refusal }
+    ensures counts { counts.new ≡ sets counts.old 0 (counts_of (in_numbers s)) }
 {
     counts[0] = s.answers as u64;
     counts[1] = s.evals;
-    s.refusal
+    number_of(s.outcome)
 }
 
 // Document 01's solve call, within joint limits: twelve numbers or none. The refusal is the result; the
@@ -83,22 +87,22 @@ pub extern "C" fn saihkeb_limits_block_lent(block: &[u8], limits: &mut [f64; 12]
     ensures result { result ≡ limits_refusal block.now }
     ensures limits { limits.new ≡ in_force block.now limits.old }
 {
-    limits_block::limits_block(block, limits)
+    number_of(limits_block::limits_block(block, limits))
 }
 
 fn flag_of(is_ls: bool) -> u8
     ensures { result ≡ flag is_ls }
 {
-    if is_ls { 1 } else { 0 }
+    u8::from(is_ls)
 }
 
 // The answer of a one-answer call: its refusal as the result, its six angles and its flag.
-fn tell(one: One, angles: &mut [f64; 6], flag: &mut [u8; 1]) -> u64
-    ensures result { result ≡ one.refusal }
-    ensures angles { angles.new ≡ sets angles.old 0 (six one.answer) }
-    ensures flag { flag.new ≡ sets flag.old 0 (byte one.answer ∷ []) }
+fn tell(one: Result<Answer, Refusal>, angles: &mut [f64; 6], flag: &mut [u8; 1]) -> u64
+    ensures result { result ≡ (one_of one).refusal }
+    ensures angles { angles.new ≡ sets angles.old 0 (six (one_of one).answer) }
+    ensures flag { flag.new ≡ sets flag.old 0 (byte (one_of one).answer ∷ []) }
 {
-    let q = one.answer;
+    let q = answer_or_zeros(one);
     angles[0] = q.q1;
     angles[1] = q.q2;
     angles[2] = q.q3;
@@ -106,7 +110,10 @@ fn tell(one: One, angles: &mut [f64; 6], flag: &mut [u8; 1]) -> u64
     angles[4] = q.q5;
     angles[5] = q.q6;
     flag[0] = flag_of(q.is_ls);
-    one.refusal
+    match one {
+        Ok(_) => 0,
+        Err(refusal) => refusal.number(),
+    }
 }
 
 // One answer within the limits, or none. Which one is given is left open.
@@ -159,7 +166,7 @@ pub extern "C" fn saihkeb_arms_put_lent(buffer: &mut [u8], number: u8, arm: &[f6
     ensures result { result ≡ refusal (put (numbered number arm.now)) buffer.old }
     ensures buffer { buffer.new ≡ after (put (numbered number arm.now)) buffer.old }
 {
-    arms::put(buffer, number, arm)
+    number_of(arms::put(buffer, number, arm))
 }
 
 // The arm of a number, or 39 zeros where it is refused.
@@ -168,7 +175,16 @@ pub extern "C" fn saihkeb_arms_find_lent(buffer: &[u8], number: u8, arm: &mut [f
     ensures result { result ≡ refusal (find number) buffer.now }
     ensures arm { arm.new ≡ (gives (find number) buffer.now).arm }
 {
-    arms::find(buffer, number, arm)
+    match arms::find(buffer, number) {
+        Ok(found) => {
+            *arm = found;
+            0
+        }
+        Err(refusal) => {
+            *arm = [0.0; 39];
+            refusal.number()
+        }
+    }
 }
 
 // The block of a number becomes zero.
@@ -177,7 +193,7 @@ pub extern "C" fn saihkeb_arms_take_out_lent(buffer: &mut [u8], number: u8) -> u
     ensures result { result ≡ refusal (take_out number) buffer.old }
     ensures buffer { buffer.new ≡ after (take_out number) buffer.old }
 {
-    arms::take_out(buffer, number)
+    number_of(arms::take_out(buffer, number))
 }
 
 // The held arms are moved to the front, and the blocks behind them become zero.
@@ -186,7 +202,7 @@ pub extern "C" fn saihkeb_arms_compact_lent(buffer: &mut [u8]) -> u64
     ensures result { result ≡ refusal compact buffer.old }
     ensures buffer { buffer.new ≡ after compact buffer.old }
 {
-    arms::compact(buffer)
+    number_of(arms::compact(buffer))
 }
 
 // The pose of six angles. A list of another length than 39, 6 or 12 is refused, and the pose's list
@@ -200,5 +216,5 @@ pub extern "C" fn saihkeb_forward_kinematics_lent(
     ensures result { result ≡ forward_refusal arm.now angles.now pose.old }
     ensures pose { pose.new ≡ forward_pose arm.now angles.now pose.old }
 {
-    forward::forward(arm, angles, pose)
+    number_of(forward::forward(arm, angles, pose))
 }
