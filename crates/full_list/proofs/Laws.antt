@@ -10,6 +10,7 @@ use lib.Dec.{eqb}
 use lib.Ieee.{Float, nan}
 use lib.ListN.{length, get_or, length-map}
 use Rattle.std.proofs.lemmas.List.{take_all}
+use Rattle.arrayvec.specs.ArrayVec.{ArrayVec}
 use Rattle.answers.specs.declared.Answer.{Answer}
 use Rattle.linear.specs.Matrix.{Matrix}
 use Rattle.linear.specs.declared.vector.Vector3.{Vector3}
@@ -29,8 +30,11 @@ use Rattle.family6_answers.specs.Pairs.{pair, zipped, first_pairs}
 use Rattle.family6_answers.proofs.Zipped.{first_long, first_at}
 use Rattle.family6.specs.TwoParallel.{answer_of, two_parallel}
 use Rattle.family6.specs.Kept.{Kept}
-use Rattle.full_list.specs.Full.{no_search, without_search, by_family, tolerance}
-use Rattle.full_list.specs.Listed.{blank}
+use Rattle.full_list.specs.Full.{Full, no_search, without_search, by_family, tolerance}
+use Rattle.full_list.specs.Task.{of_task}
+use Rattle.full_list.specs.Listed.{blank, ListOf}
+use Rattle.full_list.specs.declared.task.Task.{Task}
+use Rattle.full_list.specs.declared.list.FullList.TheVariants.{Found}
 
 map_at : {A B : Type 0} (f : A → B) (l : List A) (k : ℕ) (d : A) (e : B) → k < length l → get_or (map f l) k e ≡ f (get_or l k d)
 map_at f [] k d e h = absurd (not-suc-le-zero h)
@@ -91,3 +95,10 @@ not-six Spherical h = λ e. omega arith
 not-six ThreeParallelTwoIntersecting h = λ e. omega arith
 not-six ThreeParallel h = λ e. omega arith
 not-six TwoParallel h = λ e. h refl
+
+-- a task whose family does not search
+module _ (t : Task) where
+  pub of_found : (t.family ≡ TwoParallel → ⊥) → {found : ArrayVec Answer} → found.items ≡ (of_task t).answers → ListOf t (Found found)
+  of_found other all =
+      let e = closed (family_number t.family) t.n t.r_06 t.p_0t t.kin tolerance (not-six t.family other) in
+      record { all = all; counted = sym (ap (λ (x : Full). x.evals) e) }

@@ -1,11 +1,13 @@
 -- A full list as it is kept.
-use Rattle.std.specs.Prelude.{ℕ, false, List, map}
+use Rattle.std.specs.Prelude.{ℕ, ◌≡◌, false, List, map}
 use Rattle.float.specs.Num.{nought}
 use Rattle.answers.specs.declared.Answer.{Answer}
 use Rattle.family6_answers.specs.Pairs.{zipped}
 use Rattle.family6.specs.TwoParallel.{answer_of}
 use Rattle.full_list.specs.Full.{tolerance}
+use Rattle.full_list.specs.Task.{of_task}
 use Rattle.full_list.specs.declared.pairs.Pairs.{Pairs}
+use Rattle.full_list.specs.declared.task.Task.{Task}
 use Rattle.full_list.specs.declared.list.FullList.{FullList}
 use Rattle.full_list.specs.declared.list.FullList.TheVariants.{Found, Searched}
 
@@ -22,6 +24,11 @@ listed (Searched pairs) = of_pairs pairs
 abbrev pub evaluated : FullList → ℕ
 evaluated (Found found) = 0
 evaluated (Searched pairs) = pairs.evals
+
+-- a list is that of a task: its answers, in their order, and its evaluations
+pub record ListOf (task : Task) (list : FullList) : Type 0 where
+  pub all : listed list ≡ (of_task task).answers
+  pub counted : evaluated list ≡ (of_task task).evals
 
 -- where a list has no such place
 abbrev pub blank : Answer

@@ -9,6 +9,6 @@ mod pairs;
 mod task;
 
 pub use found::without_search;
-pub use list::{FullList, search};
+pub use list::{FullList, search, with_list};
 pub use pairs::Pairs;
 pub use task::Task;

@@ -2,13 +2,15 @@
 ghost use Rattle.std.specs.Prelude.{◌≡◌, ◌≤◌, ◌<◌, length, get_or};
 ghost use Rattle.answers.specs.Written.{Wrote};
 ghost use Rattle.limits.specs.Limits.{TwelveOrNone, allowed};
-ghost use Rattle.full_list.specs.Task.{of_task, for_search};
-ghost use Rattle.full_list.specs.Listed.{listed, evaluated, blank, of_pairs};
+ghost use Rattle.full_list.specs.Task.{for_search};
+ghost use Rattle.full_list.specs.Listed.{listed, evaluated, blank, of_pairs, ListOf};
 
+use crate::found::without_search;
 use crate::pairs::Pairs;
 use crate::task::Task;
 use answers::Answer;
 use arrayvec::ArrayVec;
+use refusals::Family;
 
 // The answers of families 1 to 5, or the pairs that family 6 found.
 #[derive(Drop)]
@@ -28,6 +30,22 @@ pub fn search<'a>(task: &Task, qs: &'a mut [f64; 17600], cs: &'a mut [u8; 17600]
         angles: &qs[..s.pairs],
         components: &cs[..s.pairs],
         evals: s.evals,
+    }
+}
+
+// What `f` makes of the full list of a task. The list is lent to it: the pairs of family 6 stand in two
+// arrays here, which are too long to hand back.
+pub fn with_list<R, F: FnMut(&FullList) -> R>(task: &Task, f: &mut F) -> R
+    requires { F.IsAlwaysCallable f.old }
+    ensures { (list : _) × ListOf task.now list.now × F.step f.old list result f.new }
+{
+    match task.family {
+        Family::TwoParallel => {
+            let mut qs = [0.0; 17600];
+            let mut cs = [0u8; 17600];
+            f(&FullList::Searched(search(task, &mut qs, &mut cs)))
+        }
+        _ => f(&FullList::Found(without_search(task))),
     }
 }
 
