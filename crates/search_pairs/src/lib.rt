@@ -9,6 +9,9 @@ ghost use Rattle.search_error.specs.Fixed.{branch_error};
 ghost use Rattle.search_refine.specs.Point.{point_of};
 ghost use Rattle.search_pairs.specs.State.{Roomy, state, afterwards};
 
+mod row;
+
+pub use row::{Column, Row, Sample, not_a_number};
 use search_error::Branch;
 use search_refine::Point;
 use search_refine::refine::refine_bracket;
