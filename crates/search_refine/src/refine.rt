@@ -2,7 +2,7 @@
 ghost use Rattle.std.specs.Prelude.{◌≡◌, ◌<◌, cond};
 ghost use Rattle.std.specs.Bool.{beq};
 ghost use Rattle.float.specs.Num.{◌⊖◌, ◌⊗◌, ◌⊘◌};
-ghost use Rattle.search_definition.specs.Refine.{half, negative, next, near, narrowed, refine_bracket};
+ghost use Rattle.search_definition.specs.Refine.{half, negative, bracket, next, near, narrowed, refine_bracket};
 ghost use Rattle.search_error.specs.Fixed.{branch_error};
 ghost use Rattle.search_refine.specs.Counted.{with_count, total};
 ghost use Rattle.search_refine.specs.Bracket.{bracket_of};
@@ -19,8 +19,8 @@ pub struct Root {
 }
 
 // Which end of the bracket the last step moved.
-#[derive(Clone, Copy)]
-enum Moved {
+#[derive(Clone, Copy, PartialEq, Eq)]
+pub enum Moved {
     Neither,
     A,
     B,
@@ -28,11 +28,11 @@ enum Moved {
 
 // The ends of the bracket, and the angle that it has reached.
 #[derive(Clone, Copy)]
-struct Bracket {
-    a: Point,
-    b: Point,
-    moved: Moved,
-    x: f64,
+pub struct Bracket {
+    pub a: Point,
+    pub b: Point,
+    pub moved: Moved,
+    pub x: f64,
 }
 
 // Where the chord between the ends of a bracket is zero. It may lie outside the bracket.
@@ -43,7 +43,7 @@ pub fn chord_zero(a: f64, b: f64, fa: f64, fb: f64) -> f64
 }
 
 // Illinois: halve the stale end so the bracket keeps shrinking.
-fn halved_if(stale: bool, p: Point) -> Point
+pub fn halved_if(stale: bool, p: Point) -> Point
     ensures x { result.x ≡ p.x }
     ensures y { result.y ≡ cond stale (p.y ⊗ half) p.y }
 {
@@ -58,8 +58,21 @@ fn halved_if(stale: bool, p: Point) -> Point
 }
 
 impl Bracket {
+    // Between two points, before the first step.
+    pub fn between(a: Point, b: Point) -> Bracket
+        ensures { bracket_of result ≡ bracket a.x b.x a.y b.y }
+    {
+        Bracket {
+            a,
+            b,
+            moved: Moved::Neither,
+            x: a.x,
+        }
+    }
+
+    // The angle that the next step asks.
     #[tactic(auto, unfolding(search_definition::specs::Refine::next))]
-    fn next(self) -> f64
+    pub fn next(self) -> f64
         ensures { result ≡ next (bracket_of self) }
     {
         chord_zero(self.a.x, self.b.x, self.a.y, self.b.y)
@@ -67,7 +80,7 @@ impl Bracket {
 
     // Whether a value y is close enough to zero, or the ends to one another.
     #[tactic(auto, unfolding(search_definition::specs::Refine::near))]
-    fn is_near(self, y: f64) -> bool
+    pub fn is_near(self, y: f64) -> bool
         ensures { result ≡ near (bracket_of self) y }
     {
         abs(y) < 1e-15 || abs(self.b.x - self.a.x) < 1e-14
@@ -75,7 +88,7 @@ impl Bracket {
 
     // The point p takes the place of the end whose sign it has.
     #[tactic(auto, unfolding(search_definition::specs::Refine::narrowed, search_definition::specs::Refine::negative))]
-    fn narrowed(self, p: Point) -> Bracket
+    pub fn narrowed(self, p: Point) -> Bracket
         ensures { bracket_of result ≡ narrowed (beq (negative p.y) (negative self.a.y)) p.x p.y (bracket_of self) }
     {
         if (p.y < 0.0) == (self.a.y < 0.0) {
@@ -101,12 +114,7 @@ impl Bracket {
 pub fn refine_bracket(branch: &Branch, a: Point, b: Point) -> Root
     ensures { with_count result.x result.evals ≡ total (refine_bracket (branch_error branch.now) a.x b.x a.y b.y) }
 {
-    let mut bracket = Bracket {
-        a,
-        b,
-        moved: Moved::Neither,
-        x: a.x,
-    };
+    let mut bracket = Bracket::between(a, b);
     for evals in 0..60u64 {
         let x = bracket.next();
         if !is_finite(x) {

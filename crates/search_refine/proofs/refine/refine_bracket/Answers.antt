@@ -1,16 +1,19 @@
 -- Each way out of the loop, and the way on, is a step of the definition.
 use Rattle.std.proofs.Common.{◌≡◌, ◌∙◌, sym, ap, arith}
-use Rattle.search_definition.specs.Refine.{refine_step, refine_from, refine_bracket, reached}
+use Rattle.search_definition.specs.Found.{run}
+use Rattle.search_definition.specs.Refine.{Bracket, refine_step, refine_from, refine_bracket, reached}
 use Rattle.search_error.specs.Fixed.{branch_error}
 use Rattle.search_refine.specs.Bracket.{bracket_of}
-use Rattle.search_refine.specs.Counted.{with_count}
+use Rattle.search_refine.specs.Counted.{with_count, counted}
 use Rattle.search_refine.proofs.Count.{counted_total, steps_end}
 use Rattle.search_refine.proofs.RefineSteps.{leaves_at_next, leaves_at_value, leaves_near, goes_narrowed}
 use Rattle.search_refine.proofs.refine.refine_bracket.Goals as goal
 
 pub loop-evals-init : goal.loop-evals-init
 unfolding refine_bracket refine_from
-loop-evals-init c = counted_total (refine_bracket (branch_error c.args.branch.now) c.args.a.x c.args.b.x c.args.a.y c.args.b.y)
+loop-evals-init c =
+    ap (λ (b : Bracket). counted 0 (run (refine_step (branch_error c.args.branch.now)) reached 60 b)) c.between-bracket.ensures
+    ∙ counted_total (refine_bracket (branch_error c.args.branch.now) c.args.a.x c.args.b.x c.args.a.y c.args.b.y)
 
 pub returns-then-not-is_finite : goal.returns-then-not-is_finite
 returns-then-not-is_finite c =
