@@ -77,13 +77,13 @@ module _ (f : Float → Float) (e p : Point) where
   keep_append true q l m = refl
   keep_append false q l m = refl
 
-  pub row_next : (A : List Point) (j n : ℕ) (u : Counted (List Point)) {B : List Point} {s y : Float} → j < 8 → counted n (still A j) ≡ u → s ≡ share j → y ≡ f (e.x ⊕ (p.x ⊖ e.x) ⊗ s) → B ≡ A ++ keep (is_finite y) (point (e.x ⊕ (p.x ⊖ e.x) ⊗ s) y) [] → counted (n + 1) (still B (j + 1)) ≡ u
+  pub row_next : (A : List Point) (j n : ℕ) (u : Counted (List Point)) {B : List Point} {x y : Float} → j < 8 → counted n (still A j) ≡ u → x ≡ e.x ⊕ (p.x ⊖ e.x) ⊗ share j → y ≡ f x → B ≡ A ++ keep (is_finite y) (point x y) [] → counted (n + 1) (still B (j + 1)) ≡ u
   unfolding subsamples subsample
-  row_next A j n u {B} {s} {y} h inv es ey eb =
+  row_next A j n u {B} {x} {y} h inv ex ey eb =
       let q = subsample f e.x p.x j in
       let r = subsamples f e.x p.x (8 - (j + 1)) (suc j) in
       let k : 8 - j ≡ suc (8 - (j + 1)) = omega arith in
-      let same : point (e.x ⊕ (p.x ⊖ e.x) ⊗ s) y ≡ q = ap (point (e.x ⊕ (p.x ⊖ e.x) ⊗ s)) ey ∙ ap (λ (z : Float). point (e.x ⊕ (p.x ⊖ e.x) ⊗ z) (f (e.x ⊕ (p.x ⊖ e.x) ⊗ z))) es in
+      let same : point x y ≡ q = ap (point x) ey ∙ ap (λ (z : Float). point z (f z)) ex in
       let b : B ≡ A ++ keep (is_finite q.y) q [] = eb ∙ ap (λ (z : Point). A ++ keep (is_finite z.y) z []) same in
       let v : B ++ (r.value ++ (p ∷ [])) ≡ A ++ (keep (is_finite q.y) q r.value ++ (p ∷ [])) =
       ap (λ (l : List Point). l ++ (r.value ++ (p ∷ []))) b
@@ -96,10 +96,10 @@ module _ (f : Float → Float) (e p : Point) where
       ∙ inv
 
   -- number j is asked after j - 1 evaluations
-  pub row_goes : (A : List Point) (j : ℕ) (u : Counted (List Point)) {B : List Point} {s y : Float} → 1 ≤ j → j < 8 → counted (j - 1) (still A j) ≡ u → s ≡ share j → y ≡ f (e.x ⊕ (p.x ⊖ e.x) ⊗ s) → B ≡ A ++ keep (is_finite y) (point (e.x ⊕ (p.x ⊖ e.x) ⊗ s) y) [] → counted (j + 1 - 1) (still B (j + 1)) ≡ u
-  row_goes A j u {B} l h inv es ey eb =
+  pub row_goes : (A : List Point) (j : ℕ) (u : Counted (List Point)) {B : List Point} {x y : Float} → 1 ≤ j → j < 8 → counted (j - 1) (still A j) ≡ u → x ≡ e.x ⊕ (p.x ⊖ e.x) ⊗ share j → y ≡ f x → B ≡ A ++ keep (is_finite y) (point x y) [] → counted (j + 1 - 1) (still B (j + 1)) ≡ u
+  row_goes A j u {B} l h inv ex ey eb =
       let n : j + 1 - 1 ≡ j - 1 + 1 = omega arith in
-      ap (λ (z : ℕ). counted z (still B (j + 1))) n ∙ row_next A j (j - 1) u h inv es ey eb
+      ap (λ (z : ℕ). counted z (still B (j + 1))) n ∙ row_next A j (j - 1) u h inv ex ey eb
 
   pub row_done : (A : List Point) (j : ℕ) (u : Counted (List Point)) → j ≡ 8 → counted (j - 1) (still A j) ≡ u → with_count (A ++ (p ∷ [])) 7 ≡ u
   unfolding subsamples
@@ -227,9 +227,9 @@ module _ (f : Float → Float) (i : ℕ) (P : ℕ → Point) (k : ℕ) (s : Stat
   unfolding if_alike
   edge_none h = sym (ap (afterwards s) (edge_is true h) ∙ after_nothing s)
 
-  pub edge_found : {g : Gap} {t : State} → beq a b ≡ false → g ≡ if_first_inside a (P k) (P (k + 1)) → t ≡ afterwards s (edge_from f (edge i k) g) → t ≡ afterwards s (edge_at f i P k)
+  pub edge_found : {g : Gap} {t : State} → beq a b ≡ false → g ≡ if_first_inside (is_finite (P k).y) (P k) (P (k + 1)) → t ≡ afterwards s (edge_from f (edge i k) g) → t ≡ afterwards s (edge_at f i P k)
   unfolding if_alike
   edge_found {g} h eg et =
       et
-      ∙ ap (λ (z : Gap). afterwards s (edge_from f (edge i k) z)) (eg ∙ ap₂ (λ (x : Bool) (j : ℕ). if_first_inside x (P k) (P j)) ea (add-one k))
+      ∙ ap (λ (z : Gap). afterwards s (edge_from f (edge i k) z)) (eg ∙ ap (λ (j : ℕ). if_first_inside (is_finite (P k).y) (P k) (P j)) (add-one k))
       ∙ sym (ap (afterwards s) (edge_is false h))

@@ -2,10 +2,11 @@
 // resampled densely towards it.
 ghost use Rattle.std.specs.Prelude.{◌≡◌, [], ◌++◌, map, ◌+◌, ◌<◌, ◌≤◌, length};
 ghost use Rattle.arrayvec.specs.ArrayVec.{array_vec_len};
+ghost use Rattle.float.specs.Num.{◌⊕◌, ◌⊖◌, ◌⊗◌};
 ghost use Rattle.float.specs.Number.{is_finite};
 ghost use Rattle.search_definition.specs.Found.{Place, Origin, component};
 ghost use Rattle.search_definition.specs.Search as Search;
-ghost use Rattle.search_definition.specs.Search.{keep, edge_points, edge_from, edge_at};
+ghost use Rattle.search_definition.specs.Search.{keep, if_inside, if_first_inside, edge_points, edge_from, edge_at};
 ghost use Rattle.search_error.specs.Fixed.{branch_error};
 ghost use Rattle.search_refine.specs.Counted.{with_count, total};
 ghost use Rattle.search_refine.specs.Point.{point_of};
@@ -31,21 +32,55 @@ pub struct Gap {
     pub outside: f64,
 }
 
+impl Gap {
+    // Between the samples p and q, of which one is finite.
+    #[tactic(auto, unfolding(search_definition::specs::Search::if_first_inside))]
+    pub fn beside(p: Point, q: Point) -> Gap
+        ensures { gap result ≡ if_first_inside (is_finite p.y) (point_of p) (point_of q) }
+    {
+        if is_finite(p.y) {
+            Gap {
+                inside: p,
+                outside: q.x,
+            }
+        } else {
+            Gap {
+                inside: q,
+                outside: p.x,
+            }
+        }
+    }
+
+    #[tactic(auto, unfolding(search_definition::specs::Search::mid))]
+    pub fn mid(self) -> f64
+        ensures { result ≡ Search.mid (gap self) }
+    {
+        0.5 * (self.inside.x + self.outside)
+    }
+
+    // With the value y at the angle x within.
+    #[tactic(auto, unfolding(search_definition::specs::Search::if_inside))]
+    pub fn halved(self, x: f64, y: f64) -> Gap
+        ensures { gap result ≡ if_inside (is_finite y) x y (gap self) }
+    {
+        if is_finite(y) {
+            Gap {
+                inside: Point { x, y },
+                ..self
+            }
+        } else {
+            Gap { outside: x, ..self }
+        }
+    }
+}
+
 // One evaluation.
-#[tactic(auto, unfolding(search_definition::specs::Search::halved, search_definition::specs::Search::mid, search_definition::specs::Search::if_inside))]
+#[tactic(auto, unfolding(search_definition::specs::Search::halved))]
 pub fn halved(branch: &Branch, g: Gap) -> Gap
     ensures { gap result ≡ Search.halved (branch_error branch.now) (gap g) }
 {
-    let x = 0.5 * (g.inside.x + g.outside);
-    let y = branch.error(x);
-    if is_finite(y) {
-        Gap {
-            inside: Point { x, y },
-            ..g
-        }
-    } else {
-        Gap { outside: x, ..g }
-    }
+    let x = g.mid();
+    g.halved(x, branch.error(x))
 }
 
 pub fn bisect(branch: &Branch, g: Gap) -> Gap
@@ -67,9 +102,16 @@ pub fn share(j: u64) -> f64
     q * q
 }
 
+// The angle of sample number j from the branch's end at lo towards the grid's sample at x.
+pub fn sub_angle(lo: f64, x: f64, j: u64) -> f64
+    ensures { result ≡ lo ⊕ (x ⊖ lo) ⊗ Search.share j }
+{
+    lo + (x - lo) * share(j)
+}
+
 // A sample goes to the end of a row, if it is finite.
 #[tactic(auto, using(crate::proofs::EdgeSteps::kept, crate::proofs::EdgeSteps::passed_over))]
-fn keep_finite(row: &mut ArrayVec<Point, 9>, p: Point)
+pub fn keep_finite(row: &mut ArrayVec<Point, 9>, p: Point)
     requires { array_vec_len row.old < 9 }
     ensures len { array_vec_len row.new ≤ array_vec_len row.old + 1 }
     ensures kept { map point_of row.new.items ≡ map point_of row.old.items ++ keep (is_finite p.y) (point_of p) [] }
@@ -87,7 +129,7 @@ pub fn edge_row(branch: &Branch, e: Point, p: Point) -> ArrayVec<Point, 9>
     let mut row: ArrayVec<Point, 9> = ArrayVec::new();
     row.push(e);
     for j in 1..SUBSAMPLES + 1 {
-        let x = e.x + (p.x - e.x) * share(j);
+        let x = sub_angle(e.x, p.x, j);
         let y = branch.error(x);
         keep_finite(&mut row, Point { x, y });
     }
@@ -137,20 +179,8 @@ pub fn edge_at(
 {
     let p = row[k];
     let q = row[k + 1];
-    let first = is_finite(p.y);
-    if first == is_finite(q.y) {
+    if is_finite(p.y) == is_finite(q.y) {
         return f;
     }
-    let g = if first {
-        Gap {
-            inside: p,
-            outside: q.x,
-        }
-    } else {
-        Gap {
-            inside: q,
-            outside: p.x,
-        }
-    };
-    scan_edge(branch, g, qs, cs, f)
+    scan_edge(branch, Gap::beside(p, q), qs, cs, f)
 }

@@ -17,7 +17,7 @@ loop-j-init c =
 pub loop-j-preserved : goal.loop-j-preserved
 loop-j-preserved c = (
   omega (arith, c.keep_finite.ensures.len, c.loop-j.invariant.0),
-  row_goes (branch_error c.args.branch.now) (point_of c.args.e) (point_of c.args.p) (map point_of c.loop-j.row.items) c.loop-j.j _ (omega arith) (omega arith) c.loop-j.invariant.1 c.share.ensures c.error-y.ensures c.keep_finite.ensures.kept,
+  row_goes (branch_error c.args.branch.now) (point_of c.args.e) (point_of c.args.p) (map point_of c.loop-j.row.items) c.loop-j.j _ (omega arith) (omega arith) c.loop-j.invariant.1 c.sub_angle-x.ensures c.error-y.ensures c.keep_finite.ensures.kept,
 )
 
 pub returns : goal.returns
