@@ -6,7 +6,8 @@ ghost use Rattle.cases.specs.Results.{same, agree};
 
 use words::{is_nan, number, pattern, word};
 
-// Whether two words are the same result.
+// Whether two words are the same result. (Of the numbers `==` says something else: 0.0 is -0.0, and a NaN
+// is none.)
 pub fn same(a: u64, b: u64) -> bool
     ensures { result ≡ same a b }
 {
@@ -30,6 +31,7 @@ pub fn gives(bytes: &[u8], i: usize, x: f64) -> bool
 }
 
 // Whether the words from i on are these results.
+#[tactic(auto, unfolding(crate::specs::Results::agree))]
 pub fn agree(bytes: &[u8], i: usize, results: &[u64]) -> bool
     requires { 8 * (i + length results.now) ≤ length bytes.now }
     ensures { result ≡ agree bytes.now i (length results.now) 0 results.now }

@@ -11,21 +11,19 @@ const UNKNOWN: usize = 30;
 const TOTAL: usize = 31;
 
 // How many cases there were, and how many of them were mismatches.
-#[derive(Clone, Copy)]
+#[derive(Clone, Copy, Default)]
 pub struct Counts {
     pub cases: u64,
     pub mismatches: u64,
 }
 
-// The counts of each function, of what is no case of one, and of all.
+// The counts of each function, of what is no case of one, and of all: one list, since an entry is written
+// and printed in the same way whatever it counts.
 pub type Tally = [Counts; 32];
 
 // Before the first case.
 pub fn no_cases() -> Tally {
-    [Counts {
-        cases: 0,
-        mismatches: 0,
-    }; 32]
+    [Counts::default(); 32]
 }
 
 impl Counts {
@@ -69,7 +67,7 @@ pub fn count(tally: &mut Tally, n: u64, id: u64, ok: bool)
 
 // Reads until the record is full, the input ends or a read fails, and returns how many bytes there
 // are at its start: these, and no others, were read. (The contract of std's `read_exact` says little
-// of a record that is not whole.)
+// of a record that is not whole. A turn of the loop goes on by what a read gave, so nothing counts it.)
 fn read_full<I: Read>(input: &mut I, bytes: &mut [u8]) -> usize
     ensures result_in_bounds { result ≤ length bytes.new }
     ensures consumed { Consumes (I.remaining input.old) (I.remaining input.new) (take result bytes.new) }
