@@ -29,10 +29,8 @@ const RESULTS: usize = 5;
 fn number(bytes: &[u8; 56], i: usize) -> Complex
     requires { i + 2 ≤ 7 }
 {
-    Complex {
-        re: cases::argument(bytes, i),
-        im: cases::argument(bytes, i + 1),
-    }
+    let [re, im]: [f64; 2] = cases::array_of(bytes, i);
+    Complex { re, im }
 }
 
 // The results that are complex numbers.
@@ -54,9 +52,7 @@ fn result(bytes: &[u8; 56], id: u64) -> Complex {
 }
 
 fn gives_number(bytes: &[u8; 56], z: Complex) -> bool {
-    let is_re = cases::gives(bytes, RESULTS, z.re);
-    let is_im = cases::gives(bytes, RESULTS + 1, z.im);
-    is_re && is_im
+    cases::agree(bytes, RESULTS, &[z.re, z.im].map(cases::pattern))
 }
 
 fn agrees(bytes: &[u8; 56], id: u64) -> bool {
