@@ -1,4 +1,5 @@
-// The lines of a block, from its numbers and the two lists.
+// The lines of a block, from its numbers and the two lists, which stay two as the calls for C lend
+// them. (The words and the spaces are put one by one, and not by `write!`: text.rt says why.)
 ghost use Rattle.std.specs.Prelude.{◌≡◌, ◌++◌, ◌+◌, ◌*◌, ◌≤◌, ◌<◌, min, length};
 ghost use mathlib.Core.List.{flat_map};
 ghost use Rattle.arrayvec.specs.ArrayVec.{array_vec_len};
