@@ -3,32 +3,9 @@ use Prim.Native.Nat.{ℕ}
 use mathlib.Core.Path.{◌≡◌, sym, ◌∙◌}
 use mathlib.Core.List.{List, []}
 use borrow.Author.Tests.{eq-eqb, ne_eqb}
-use native.Mathlib.Omega.{arith}
-use Rattle.refusals.specs.declared.refusal.Refusal.{Refusal}
-use Rattle.refusals.specs.declared.refusal.Refusal.TheVariants.{ShortBlock, WrongCheck, Reserved, Family, ArmLength, PoseLength, Samples, NotFinite, NoRoom, Limits, Lock, NoneAllowed, ArmNumber, NotHeld, FileFull, AnglesLength}
-use Rattle.refusals.specs.Refusal.{number}
 use Rattle.arms.specs.Arm.{zeros_39, pick, Call, find, own, arm_given}
 use Rattle.arms.specs.File.{blocks, flat, arms, judge, room, effect, refusal, gives, after}
 use Rattle.arms.proofs.Blocks.{first_is, then_is}
-
--- a refusal is not numbered 0
-pub refused : (r : Refusal) → number r ≡ 0 → ⊥
-refused ShortBlock e = omega arith
-refused WrongCheck e = omega arith
-refused Reserved e = omega arith
-refused Family e = omega arith
-refused ArmLength e = omega arith
-refused PoseLength e = omega arith
-refused Samples e = omega arith
-refused NotFinite e = omega arith
-refused NoRoom e = omega arith
-refused Limits e = omega arith
-refused Lock e = omega arith
-refused NoneAllowed e = omega arith
-refused ArmNumber e = omega arith
-refused NotHeld e = omega arith
-refused FileFull e = omega arith
-refused AnglesLength e = omega arith
 
 module _ (call : Call) (l : List ℕ) where
   pub kept : {r : ℕ} → r ≡ refusal call l → (r ≡ 0 → ⊥) → l ≡ after call l

@@ -15,14 +15,13 @@ ghost use Rattle.arms.specs.File.{blocks, flat, number, rest, arms, block_fault,
 ghost use Rattle.arms.specs.Agreement.{Valid};
 ghost use Rattle.arms.specs.Port.{named, fault_by, Told, Moved, Fronted};
 
-use block::{check, damage};
+use block::{Block, check, damage};
 use refusals::{Refusal, all_finite};
 use words::{pattern, word, zeros};
 
 // Whether the rest of an arm block is zero: bytes 1 to 7 of word 0, and words 40 to 62.
 #[tactic(auto, unfolding(crate::specs::File::rest))]
-fn rest(b: &[u8]) -> bool
-    requires { 504 ≤ length b.now }
+fn rest(b: &[u8; 512]) -> bool
     ensures { result ≡ rest b.now }
 {
     zeros(&b[1..8]) && zeros(&b[320..504])
@@ -35,24 +34,6 @@ fn place_of(blocks: &[[u8; 512]], n: u8) -> Option<usize>
     blocks.iter().position(|b| b[0] == n)
 }
 
-// The block that holds the arm of a number. In valid blocks 0 is the number of the empty ones alone.
-fn held_at(blocks: &[[u8; 512]], n: u8) -> Option<usize>
-    requires { judge [] blocks.now ≡ 0 }
-    ensures { result ≡ position (has n) blocks.now }
-{
-    if n == 0 {
-        return None;
-    }
-    place_of(blocks, n)
-}
-
-fn held(blocks: &[[u8; 512]], n: u8) -> bool
-    requires { judge [] blocks.now ≡ 0 }
-    ensures { result ≡ holds n (arms blocks.now) }
-{
-    held_at(blocks, n).is_some()
-}
-
 // Whether a word is the pattern of a finite number.
 fn finite_word(word: u64) -> bool
     ensures { result ≡ is_finite (of_bits binary64 word) }
@@ -61,64 +42,102 @@ fn finite_word(word: u64) -> bool
 }
 
 // Whether the arm of a block is finite. The words are tested where they stand, and no list is made.
-fn finite(b: &[u8]) -> bool
-    requires { 512 ≤ length b.now }
+fn finite(b: &[u8; 512]) -> bool
     ensures { result ≡ all_finite (arm b.now) }
 {
     (1..40usize).all(|i| finite_word(word(b, i)))
 }
 
-// What an arm is refused for where these blocks hold arms already: 8, then 13. For an arm that is put
-// they are the buffer's, for the arm of a block those before it. A number that is not marked is new; the
-// others are looked for.
-#[tactic(auto, unfolding(crate::specs::Port::fault_by))]
-fn arm_fault(earlier: &[[u8; 512]], number: u8, finite: bool, marked: bool) -> Result<(), Refusal>
-    requires { (judge [] earlier.now ≡ 0) × Told marked number (arms earlier.now) }
-    ensures { number_of result ≡ fault_by (arms earlier.now) number finite }
-{
-    if !finite {
-        return Err(Refusal::NotFinite);
-    }
-    if number == 0 || marked && held(earlier, number) {
-        return Err(Refusal::ArmNumber);
-    }
-    Ok(())
+// Blocks of which none is refused.
+#[derive(Clone, Copy)]
+struct Judged<'a> {
+    blocks: &'a [[u8; 512]],
+    ghost valid: { judge [] blocks.now ≡ 0 },
 }
 
-// What a block is refused for: nothing where it is empty, else 1 and 2 as any block, 3, and then for its
-// arm.
-#[tactic(auto, using(crate::proofs::Bytes::empty_fault), unfolding(crate::specs::File::block_fault, crate::specs::File::number, crate::specs::File::arm_of, crate::specs::Port::fault_by, crate::specs::Arm::arm_fault))]
-fn block_fault(earlier: &[[u8; 512]], b: &[u8; 512], marked: bool) -> Result<(), Refusal>
-    requires { (judge [] earlier.now ≡ 0) × Told marked (number b.now) (arms earlier.now) }
-    ensures { number_of result ≡ block_fault (arms earlier.now) b.now }
-{
-    if zeros(b) {
-        return Ok(());
+impl Judged<'_> {
+    // The block that holds the arm of a number. In valid blocks 0 is the number of the empty ones alone.
+    fn held_at(&self, n: u8) -> Option<usize>
+        ensures { result ≡ position (has n) self.now.blocks.now }
+    {
+        if n == 0 {
+            return None;
+        }
+        place_of(self.blocks, n)
     }
-    damage(b)?;
-    if !rest(b) {
-        return Err(Refusal::Reserved);
+
+    fn held(&self, n: u8) -> bool
+        ensures { result ≡ holds n (arms self.now.blocks.now) }
+    {
+        self.held_at(n).is_some()
     }
-    arm_fault(earlier, b[0], finite(b), marked)
+
+    // What an arm is refused for where these blocks hold arms already: 8, then 13. For an arm that is put
+    // they are the buffer's, for the arm of a block those before it. A number that is not marked is new;
+    // the others are looked for.
+    #[tactic(auto, unfolding(crate::specs::Port::fault_by))]
+    fn arm_fault(&self, number: u8, finite: bool, marked: bool) -> Result<(), Refusal>
+        requires { Told marked number (arms self.now.blocks.now) }
+        ensures { number_of result ≡ fault_by (arms self.now.blocks.now) number finite }
+    {
+        if !finite {
+            return Err(Refusal::NotFinite);
+        }
+        if number == 0 || marked && self.held(number) {
+            return Err(Refusal::ArmNumber);
+        }
+        Ok(())
+    }
+
+    // What a block behind these is refused for: nothing where it is empty, else 1 and 2 as any block, 3,
+    // and then for its arm.
+    #[tactic(auto, using(crate::proofs::Bytes::empty_fault), unfolding(crate::specs::File::block_fault, crate::specs::File::number, crate::specs::File::arm_of, crate::specs::Port::fault_by, crate::specs::Arm::arm_fault))]
+    fn block_fault(&self, b: &[u8; 512], marked: bool) -> Result<(), Refusal>
+        requires { Told marked (number b.now) (arms self.now.blocks.now) }
+        ensures { number_of result ≡ block_fault (arms self.now.blocks.now) b.now }
+    {
+        if zeros(b) {
+            return Ok(());
+        }
+        damage(b)?;
+        if !rest(b) {
+            return Err(Refusal::Reserved);
+        }
+        self.arm_fault(b[0], finite(b), marked)
+    }
+
+    // What an arm that is put is refused for, but for the room: 5, 8, 13.
+    #[tactic(auto, unfolding(crate::specs::Port::fault_by, crate::specs::Arm::put_fault, crate::specs::Arm::arm_fault))]
+    fn put_fault(&self, number: u8, arm: &[f64]) -> Result<(), Refusal>
+        ensures { number_of result ≡ put_fault (arms self.now.blocks.now) (numbered number arm.now) }
+    {
+        if arm.len() != 39 {
+            return Err(Refusal::ArmLength);
+        }
+        self.arm_fault(number, all_finite(arm), true)
+    }
 }
 
 // The buffer judged, block by block: its blocks, or the first refusal. The numbers of the blocks before
 // are marked, so that only a number that comes again is looked for.
-fn judge(buffer: &[u8]) -> Result<&[[u8; 512]], Refusal>
+fn judge(buffer: &[u8]) -> Result<Judged<'_>, Refusal>
     ensures refusal { number_of result ≡ judge [] (blocks buffer.now) }
-    ensures whole { IfOk result (λ bs. bs.now ≡ blocks buffer.now) }
+    ensures whole { IfOk result (λ j. j.blocks.now ≡ blocks buffer.now) }
 {
     let (blocks, short) = buffer.as_chunks::<512>();
     let mut seen = [false; 256];
     for (k, b) in blocks.iter().enumerate() {
         let n = b[0] as usize;
-        block_fault(&blocks[..k], b, seen[n])?;
+        let before = Judged {
+            blocks: &blocks[..k],
+        };
+        before.block_fault(b, seen[n])?;
         seen[n] = true;
     }
     if !short.is_empty() {
         return Err(Refusal::ShortBlock);
     }
-    Ok(blocks)
+    Ok(Judged { blocks })
 }
 
 // Find: the arm of a number.
@@ -126,9 +145,12 @@ pub fn find(buffer: &[u8], number: u8) -> Result<[f64; 39], Refusal>
     ensures result { number_of result ≡ refusal (find number) buffer.now }
     ensures arm { arm_or_zeros result ≡ (gives (find number) buffer.now).arm }
 {
-    let blocks = judge(buffer)?;
-    match held_at(blocks, number) {
-        Some(k) => Ok(block::arm(&blocks[k])),
+    let judged = judge(buffer)?;
+    match judged.held_at(number) {
+        Some(k) => {
+            let bytes = &judged.blocks[k];
+            Ok(Block { bytes }.arm())
+        }
         None => Err(Refusal::NotHeld),
     }
 }
@@ -138,7 +160,7 @@ pub fn take_out(buffer: &mut [u8], number: u8) -> Result<(), Refusal>
     ensures result { number_of result ≡ refusal (take_out number) buffer.old }
     ensures buffer { buffer.new ≡ after (take_out number) buffer.old }
 {
-    match held_at(judge(buffer)?, number) {
+    match judge(buffer)?.held_at(number) {
         Some(k) => {
             let at = 512 * k;
             buffer[at..at + 512].fill(0);
@@ -210,26 +232,14 @@ fn put_block(b: &mut [u8], number: u8, arm: &[f64])
     b[504..512].copy_from_slice(&sum.to_le_bytes());
 }
 
-// What an arm that is put is refused for, but for the room: 5, 8, 13.
-#[tactic(auto, unfolding(crate::specs::Port::fault_by, crate::specs::Arm::put_fault, crate::specs::Arm::arm_fault))]
-fn put_fault(blocks: &[[u8; 512]], number: u8, arm: &[f64]) -> Result<(), Refusal>
-    requires { judge [] blocks.now ≡ 0 }
-    ensures { number_of result ≡ put_fault (arms blocks.now) (numbered number arm.now) }
-{
-    if arm.len() != 39 {
-        return Err(Refusal::ArmLength);
-    }
-    arm_fault(blocks, number, all_finite(arm), true)
-}
-
 // Put: the arm goes into the first empty block.
 pub fn put(buffer: &mut [u8], number: u8, arm: &[f64]) -> Result<(), Refusal>
     ensures result { number_of result ≡ refusal (put (numbered number arm.now)) buffer.old }
     ensures buffer { buffer.new ≡ after (put (numbered number arm.now)) buffer.old }
 {
-    let blocks = judge(buffer)?;
-    put_fault(blocks, number, arm)?;
-    match place_of(blocks, 0) {
+    let judged = judge(buffer)?;
+    judged.put_fault(number, arm)?;
+    match place_of(judged.blocks, 0) {
         Some(k) => {
             let at = 512 * k;
             put_block(&mut buffer[at..at + 512], number, arm);

@@ -14,7 +14,8 @@ use Rattle.arms.proofs.Bytes.{length_flat, flat_empty}
 use Rattle.arms.proofs.Agree.{good_of}
 use Rattle.arms.proofs.Places.{valid_long}
 use Rattle.arms.proofs.Fronts.{flat_append}
-use Rattle.arms.proofs.Calls.{refused, bad, bad_kept, done, own_next}
+use Rattle.refusals.proofs.Outcomes.{number-positive}
+use Rattle.arms.proofs.Calls.{bad, bad_kept, done, own_next}
 use Rattle.arms.proofs.compact.Goals as goal
 
 module _ (l : List ℕ) (valid : Valid l) where
@@ -43,10 +44,10 @@ pub returns-in_err-judge-clause-result : goal.returns-in_err-judge-clause-result
 returns-in_err-judge-clause-result c =
     let r = c.in_err-judge.field-0.0 in
     let e : Refusals.number_of c.from_residual.result ≡ Refusals.number r = search rules in
-    e ∙ bad compact c.args.buffer.now c.in_err-judge.ensures.refusal (refused r)
+    e ∙ bad compact c.args.buffer.now c.in_err-judge.ensures.refusal (number-positive r)
 
 pub returns-in_err-judge-clause-buffer : goal.returns-in_err-judge-clause-buffer
-returns-in_err-judge-clause-buffer c = bad_kept compact c.args.buffer.now c.in_err-judge.ensures.refusal (refused c.in_err-judge.field-0.0)
+returns-in_err-judge-clause-buffer c = bad_kept compact c.args.buffer.now c.in_err-judge.ensures.refusal (number-positive c.in_err-judge.field-0.0)
 
 pub returns-clause-result : goal.returns-clause-result
 returns-clause-result c = none c.args.buffer.now (sym c.in_ok-judge.ensures.refusal)

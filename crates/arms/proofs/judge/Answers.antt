@@ -14,7 +14,7 @@ use Rattle.arms.specs.Port.{Told}
 use Rattle.arms.proofs.Lists.{at_end, more_holds}
 use Rattle.arms.proofs.Blocks.{then_is, first_is, arms_append, judge_append}
 use Rattle.arms.proofs.Parts.{whole_chunks, short_chunk}
-use Rattle.arms.proofs.Calls.{refused}
+use Rattle.refusals.proofs.Outcomes.{number-positive}
 use Rattle.std.specs.Simd.{first_chunks}
 use Rattle.arms.proofs.judge.Goals as goal
 use Rattle.arms.proofs.judge.Invariants.{Marks}
@@ -105,10 +105,13 @@ module _ (l : List ℕ) (bs : List (List ℕ)) (e : bs ≡ first_chunks 512 (len
 pub loop-k-init : goal.loop-k-init
 loop-k-init c = (none, no-marks)
 
+pub invariant_of-before : goal.invariant_of-before
+invariant_of-before c = record { valid = c.loop-k.invariant.0 }
+
 pub block_fault-requires : goal.block_fault-requires
 block_fault-requires c =
     let bs = c.as_chunks.result.0.now in
-    (c.loop-k.invariant.0, mark c.loop-k.seen (arms (take c.loop-k.k bs)) (get_or bs c.loop-k.k []) c.loop-k.invariant.1)
+    (mark c.loop-k.seen (arms (take c.loop-k.k bs)) (get_or bs c.loop-k.k []) c.loop-k.invariant.1)
 
 pub loop-k-preserved : goal.loop-k-preserved
 loop-k-preserved c =
@@ -121,7 +124,7 @@ pub returns-in_err-block_fault-clause-refusal : goal.returns-in_err-block_fault-
 returns-in_err-block_fault-clause-refusal c =
     let r = c.in_err-block_fault.field-0.0 in
     let e : Refusals.number_of c.from_residual.result ≡ Refusals.number r = search rules in
-    e ∙ stopped c.args.buffer.now c.as_chunks.result.0.now c.as_chunks.ensures.front c.loop-k.k c.loop-k-test.true c.loop-k.invariant.0 c.in_err-block_fault.ensures (refused r)
+    e ∙ stopped c.args.buffer.now c.as_chunks.result.0.now c.as_chunks.ensures.front c.loop-k.k c.loop-k-test.true c.loop-k.invariant.0 c.in_err-block_fault.ensures (number-positive r)
 
 pub returns-then-not-is_empty-clause-refusal : goal.returns-then-not-is_empty-clause-refusal
 returns-then-not-is_empty-clause-refusal c =
@@ -136,6 +139,12 @@ returns-clause-refusal c =
     let all : take c.loop-k.k bs ≡ bs = take_all c.loop-k.k bs (omega arith) in
     ended c.args.buffer.now bs c.as_chunks.ensures.front (rw all at c.loop-k.invariant.0)
     (sym c.as_chunks.ensures.back_len ∙ eqb-true (length c.as_chunks.result.1.now) 0 (sym c.is_empty.ensures ∙ c.if-not-is_empty.false))
+
+pub invariant_of-result : goal.invariant_of-result
+invariant_of-result c =
+    let bs = c.as_chunks.result.0.now in
+    let all : take c.loop-k.k bs ≡ bs = take_all c.loop-k.k bs (omega arith) in
+    record { valid = rw all at c.loop-k.invariant.0 }
 
 pub returns-clause-whole : goal.returns-clause-whole
 returns-clause-whole c =

@@ -13,7 +13,8 @@ use Rattle.arms.specs.File.{blocks, arms, block_of, room, effect, refusal, after
 use Rattle.arms.specs.Agreement.{Valid}
 use Rattle.arms.specs.Port.{named}
 use Rattle.arms.proofs.Blocks.{first_is, then_is}
-use Rattle.arms.proofs.Calls.{refused, bad, bad_kept, kept, done, own_next}
+use Rattle.refusals.proofs.Outcomes.{number-positive}
+use Rattle.arms.proofs.Calls.{bad, bad_kept, kept, done, own_next}
 use Rattle.arms.proofs.Places.{free_at, room_there, no_room, block_within, replace_at}
 use Rattle.arms.proofs.put.Goals as goal
 
@@ -53,63 +54,60 @@ module _ (l : List ℕ) (n : ℕ) (numbers : List Float) (v : Valid l) {own-faul
     full : r ≡ None → 15 ≡ refusal (put (numbered n numbers)) l
     full none = rw (no_room l v e none) at by_room
 
-pub returns-in_err-blocks-clause-result : goal.returns-in_err-blocks-clause-result
-returns-in_err-blocks-clause-result c =
-    let r = c.in_err-blocks.field-0.0 in
+pub returns-in_err-judged-clause-result : goal.returns-in_err-judged-clause-result
+returns-in_err-judged-clause-result c =
+    let r = c.in_err-judged.field-0.0 in
     let e : Refusals.number_of c.from_residual.result ≡ Refusals.number r = search rules in
-    e ∙ bad (put (numbered c.args.number c.args.arm.now)) c.args.buffer.now c.in_err-blocks.ensures.refusal (refused r)
+    e ∙ bad (put (numbered c.args.number c.args.arm.now)) c.args.buffer.now c.in_err-judged.ensures.refusal (number-positive r)
 
-pub returns-in_err-blocks-clause-buffer : goal.returns-in_err-blocks-clause-buffer
-returns-in_err-blocks-clause-buffer c =
-    bad_kept (put (numbered c.args.number c.args.arm.now)) c.args.buffer.now c.in_err-blocks.ensures.refusal (refused c.in_err-blocks.field-0.0)
-
-pub put_fault-requires : goal.put_fault-requires
-put_fault-requires c = rw c.in_ok-blocks.ensures.whole (sym c.in_ok-blocks.ensures.refusal)
+pub returns-in_err-judged-clause-buffer : goal.returns-in_err-judged-clause-buffer
+returns-in_err-judged-clause-buffer c =
+    bad_kept (put (numbered c.args.number c.args.arm.now)) c.args.buffer.now c.in_err-judged.ensures.refusal (number-positive c.in_err-judged.field-0.0)
 
 pub returns-in_err-put_fault-clause-result : goal.returns-in_err-put_fault-clause-result
 returns-in_err-put_fault-clause-result c =
     let l = c.args.buffer.now in
     let r = c.in_err-put_fault.field-0.0 in
     let e : Refusals.number_of c.from_residual-in_err-put_fault.result ≡ Refusals.number r = search rules in
-    e ∙ arm-refused l c.args.number c.args.arm.now (sym c.in_ok-blocks.ensures.refusal) (rw c.in_ok-blocks.ensures.whole at c.in_err-put_fault.ensures) (refused r)
+    e ∙ arm-refused l c.args.number c.args.arm.now (sym c.in_ok-judged.ensures.refusal) (rw c.in_ok-judged.ensures.whole at c.in_err-put_fault.ensures) (number-positive r)
 
 pub returns-in_err-put_fault-clause-buffer : goal.returns-in_err-put_fault-clause-buffer
 returns-in_err-put_fault-clause-buffer c =
     let l = c.args.buffer.now in
     let r = c.in_err-put_fault.field-0.0 in
     kept (put (numbered c.args.number c.args.arm.now)) l
-    (arm-refused l c.args.number c.args.arm.now (sym c.in_ok-blocks.ensures.refusal) (rw c.in_ok-blocks.ensures.whole at c.in_err-put_fault.ensures) (refused r)) (refused r)
+    (arm-refused l c.args.number c.args.arm.now (sym c.in_ok-judged.ensures.refusal) (rw c.in_ok-judged.ensures.whole at c.in_err-put_fault.ensures) (number-positive r)) (number-positive r)
 
 pub slice_bounds-put_block-end : goal.slice_bounds-put_block-end
 slice_bounds-put_block-end c =
-    let b = c.in_ok-blocks.ensures.whole in
-    omega (arith, inside c.args.buffer.now c.args.number c.args.arm.now (sym c.in_ok-blocks.ensures.refusal) (rw b at c.in_ok-put_fault.ensures) refl (rw b at c.in-Some.ensures) c.in-Some.k refl)
+    let b = c.in_ok-judged.ensures.whole in
+    omega (arith, inside c.args.buffer.now c.args.number c.args.arm.now (sym c.in_ok-judged.ensures.refusal) (rw b at c.in_ok-put_fault.ensures) refl (rw b at c.in-Some.ensures) c.in-Some.k refl)
 
 pub put_block-requires : goal.put_block-requires
 put_block-requires c =
     let l = c.args.buffer.now in
-    let b = c.in_ok-blocks.ensures.whole in
-    let i = inside l c.args.number c.args.arm.now (sym c.in_ok-blocks.ensures.refusal) (rw b at c.in_ok-put_fault.ensures) refl (rw b at c.in-Some.ensures) c.in-Some.k refl in
+    let b = c.in_ok-judged.ensures.whole in
+    let i = inside l c.args.number c.args.arm.now (sym c.in_ok-judged.ensures.refusal) (rw b at c.in_ok-put_fault.ensures) refl (rw b at c.in-Some.ensures) c.in-Some.k refl in
     (search rules, all l c.args.number c.args.arm.now (rw b at c.in_ok-put_fault.ensures))
 
 pub returns-in-Some-clause-result : goal.returns-in-Some-clause-result
 returns-in-Some-clause-result c =
-    let b = c.in_ok-blocks.ensures.whole in
-    placed c.args.buffer.now c.args.number c.args.arm.now (sym c.in_ok-blocks.ensures.refusal) (rw b at c.in_ok-put_fault.ensures) refl (rw b at c.in-Some.ensures) c.in-Some.k refl
+    let b = c.in_ok-judged.ensures.whole in
+    placed c.args.buffer.now c.args.number c.args.arm.now (sym c.in_ok-judged.ensures.refusal) (rw b at c.in_ok-put_fault.ensures) refl (rw b at c.in-Some.ensures) c.in-Some.k refl
 
 pub returns-in-Some-clause-buffer : goal.returns-in-Some-clause-buffer
 returns-in-Some-clause-buffer c =
-    let b = c.in_ok-blocks.ensures.whole in
-    placed-left c.args.buffer.now c.args.number c.args.arm.now (sym c.in_ok-blocks.ensures.refusal) (rw b at c.in_ok-put_fault.ensures) refl (rw b at c.in-Some.ensures) c.in-Some.k refl c.put_block.ensures
+    let b = c.in_ok-judged.ensures.whole in
+    placed-left c.args.buffer.now c.args.number c.args.arm.now (sym c.in_ok-judged.ensures.refusal) (rw b at c.in_ok-put_fault.ensures) refl (rw b at c.in-Some.ensures) c.in-Some.k refl c.put_block.ensures
 
 pub returns-in-None-clause-result : goal.returns-in-None-clause-result
 returns-in-None-clause-result c =
-    let b = c.in_ok-blocks.ensures.whole in
-    full c.args.buffer.now c.args.number c.args.arm.now (sym c.in_ok-blocks.ensures.refusal) (rw b at c.in_ok-put_fault.ensures) refl (rw b at c.in-None.ensures) refl
+    let b = c.in_ok-judged.ensures.whole in
+    full c.args.buffer.now c.args.number c.args.arm.now (sym c.in_ok-judged.ensures.refusal) (rw b at c.in_ok-put_fault.ensures) refl (rw b at c.in-None.ensures) refl
 
 pub returns-in-None-clause-buffer : goal.returns-in-None-clause-buffer
 returns-in-None-clause-buffer c =
     let l = c.args.buffer.now in
-    let b = c.in_ok-blocks.ensures.whole in
+    let b = c.in_ok-judged.ensures.whole in
     kept (put (numbered c.args.number c.args.arm.now)) l
-    (full l c.args.number c.args.arm.now (sym c.in_ok-blocks.ensures.refusal) (rw b at c.in_ok-put_fault.ensures) refl (rw b at c.in-None.ensures) refl) (λ z. omega arith)
+    (full l c.args.number c.args.arm.now (sym c.in_ok-judged.ensures.refusal) (rw b at c.in_ok-put_fault.ensures) refl (rw b at c.in-None.ensures) refl) (λ z. omega arith)

@@ -9,7 +9,8 @@ use Rattle.arms.specs.Arm.{take_out, own}
 use Rattle.arms.specs.File.{blocks, empty, has, effect, refusal, after}
 use Rattle.arms.specs.Agreement.{Valid}
 use Rattle.arms.proofs.Places.{found, there_held, not_held, block_within, replace_at}
-use Rattle.arms.proofs.Calls.{refused, bad, bad_kept, kept, done, own_next}
+use Rattle.refusals.proofs.Outcomes.{number-positive}
+use Rattle.arms.proofs.Calls.{bad, bad_kept, kept, done, own_next}
 use Rattle.arms.proofs.take_out.Goals as goal
 
 module _ (l : List ℕ) (n : ℕ) (v : Valid l) {r : Option ℕ} (e : r ≡ position (has n) (blocks l)) where
@@ -40,15 +41,10 @@ pub returns-in_err-judge-clause-result : goal.returns-in_err-judge-clause-result
 returns-in_err-judge-clause-result c =
     let r = c.in_err-judge.field-0.0 in
     let e : Refusals.number_of c.from_residual.result ≡ Refusals.number r = search rules in
-    e ∙ bad (take_out c.args.number) c.args.buffer.now c.in_err-judge.ensures.refusal (refused r)
+    e ∙ bad (take_out c.args.number) c.args.buffer.now c.in_err-judge.ensures.refusal (number-positive r)
 
 pub returns-in_err-judge-clause-buffer : goal.returns-in_err-judge-clause-buffer
-returns-in_err-judge-clause-buffer c = bad_kept (take_out c.args.number) c.args.buffer.now c.in_err-judge.ensures.refusal (refused c.in_err-judge.field-0.0)
-
-pub held_at-requires : goal.held_at-requires
-held_at-requires c =
-    let v = sym c.in_ok-judge.ensures.refusal in
-    rw c.in_ok-judge.ensures.whole v
+returns-in_err-judge-clause-buffer c = bad_kept (take_out c.args.number) c.args.buffer.now c.in_err-judge.ensures.refusal (number-positive c.in_err-judge.field-0.0)
 
 pub slice_bounds-fill-end : goal.slice_bounds-fill-end
 slice_bounds-fill-end c =
