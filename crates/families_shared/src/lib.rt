@@ -15,7 +15,8 @@ use arrayvec::ArrayVec;
 use kinematics::Kinematics;
 use linear::{Matrix3, Vector3};
 
-// The place that the first joints of families 3 to 6 have to reach.
+// The place that the first joints of families 3 to 6 have to reach. The pose and the arm are the Rust's
+// three parameters r_06, p_0t and kin here and in each family, since the definitions name them so.
 #[tactic(auto, unfolding(crate::specs::Place::p_16))]
 pub fn p_16(r_06: Matrix3, p_0t: Vector3, kin: Kinematics) -> Vector3
     ensures { result ≡ p_16 r_06 p_0t kin }
@@ -30,8 +31,9 @@ pub fn product4(a: Matrix3, b: Matrix3, c: Matrix3, d: Matrix3) -> Matrix3
     linear::product(linear::product(linear::product(a, b), c), d)
 }
 
-// Appends answers, for which the caller has kept room. (The list's own way to extend it answers a
-// Result.)
+// Appends answers, for which the caller has kept room. Each family gathers in a loop of its own, since
+// one function for all, of a closure that gives M answers at each of N values, would return a list with
+// room for N * M, and a type's const argument cannot be a product of two parameters.
 pub fn append<const N: usize, const M: usize>(
     all: &mut ArrayVec<Answer, N>,
     more: &ArrayVec<Answer, M>,
@@ -39,7 +41,5 @@ pub fn append<const N: usize, const M: usize>(
     requires { array_vec_len all.old + array_vec_len more.now ≤ N }
     ensures { all.new.items ≡ all.old.items ++ more.now.items }
 {
-    for q in more.iter() {
-        all.push(*q);
-    }
+    all.try_extend_from_slice(more.as_slice()).unwrap();
 }
