@@ -8,48 +8,49 @@ ghost use Rattle.families_wrist.specs.Wrist.{t5, wrist_q5, wrist};
 use answers::Answer;
 use arrayvec::ArrayVec;
 use families_shared::Arm;
-use kinematics::Kinematics;
 use linear::{Matrix3, Vector3};
 use subproblems::Solved2;
 
-#[tactic(auto, unfolding(crate::specs::Wrist::t5))]
-fn t5(kin: Kinematics, r_36: Matrix3) -> Solved2<f64>
-    ensures { result ≡ t5 kin r_36 }
-{
-    let d = linear::dot(linear::row_apply(kin.h4, r_36), kin.h6);
-    subproblems::subproblem4(kin.h4, kin.h6, kin.h5, d)
-}
-
-// r_36 is for the contract alone: `to` and `from` are what both calls of subproblem1 need of it.
-#[tactic(auto, unfolding(crate::specs::Wrist::wrist_q5))]
-fn wrist_q5(
-    arm: &Arm,
+// r_36, and what the calls of subproblem1 need of it at each q5: r_36 * h6 and r_36.transpose() * h4.
+#[derive(Clone, Copy)]
+struct GivenR36<'a> {
+    arm: &'a Arm,
     r_36: Matrix3,
     to: Vector3,
     from: Vector3,
-    q1: f64,
-    q2: f64,
-    q3: f64,
-    is_ls: bool,
-    q5: f64,
-) -> Answer
-    requires to_value { to ≡ apply r_36 arm.now.kin.h6 }
-    requires from_value { from ≡ apply (transpose r_36) arm.now.kin.h4 }
-    ensures { result ∷ [] ≡ wrist_q5 arm.now.kin arm.now.tolerance r_36 q1 q2 q3 is_ls q5 }
-{
-    let kin = arm.kin;
-    let p4 = linear::apply(arm.h5.ahead(q5), kin.h6);
-    let q4 = subproblems::subproblem1_within(p4, to, kin.h4, arm.tolerance);
-    let p6 = linear::apply(arm.h5.back(q5), kin.h4);
-    let q6 = subproblems::subproblem1_within(p6, from, -kin.h6, arm.tolerance);
-    Answer {
-        q1,
-        q2,
-        q3,
-        q4: q4.theta,
-        q5,
-        q6: q6.theta,
-        is_ls: is_ls || q4.is_ls || q6.is_ls,
+    ghost to_value: { to ≡ apply r_36 arm.now.kin.h6 },
+    ghost from_value: { from ≡ apply (transpose r_36) arm.now.kin.h4 },
+}
+
+impl GivenR36<'_> {
+    #[tactic(auto, unfolding(crate::specs::Wrist::t5))]
+    fn t5(&self) -> Solved2<f64>
+        ensures { result ≡ t5 self.now.arm.now.kin self.now.r_36 }
+    {
+        let kin = &self.arm.kin;
+        let d = linear::dot(linear::row_apply(kin.h4, self.r_36), kin.h6);
+        subproblems::subproblem4(kin.h4, kin.h6, kin.h5, d)
+    }
+
+    #[tactic(auto, unfolding(crate::specs::Wrist::wrist_q5))]
+    fn wrist_q5(&self, q1: f64, q2: f64, q3: f64, is_ls: bool, q5: f64) -> Answer
+        ensures { result ∷ [] ≡ wrist_q5 self.now.arm.now.kin self.now.arm.now.tolerance self.now.r_36 q1 q2 q3 is_ls q5 }
+    {
+        let arm = self.arm;
+        let kin = &arm.kin;
+        let p4 = linear::apply(arm.h5.ahead(q5), kin.h6);
+        let q4 = subproblems::subproblem1_within(p4, self.to, kin.h4, arm.tolerance);
+        let p6 = linear::apply(arm.h5.back(q5), kin.h4);
+        let q6 = subproblems::subproblem1_within(p6, self.from, -kin.h6, arm.tolerance);
+        Answer {
+            q1,
+            q2,
+            q3,
+            q4: q4.theta,
+            q5,
+            q6: q6.theta,
+            is_ls: is_ls || q4.is_ls || q6.is_ls,
+        }
     }
 }
 
@@ -64,13 +65,17 @@ pub fn wrist(
 ) -> ArrayVec<Answer, 2>
     ensures { result.items ≡ wrist arm.now.kin arm.now.tolerance r_36 q1 q2 q3 is_ls }
 {
-    let t = t5(arm.kin, r_36);
+    let given = GivenR36 {
+        arm,
+        r_36,
+        to: linear::apply(r_36, arm.kin.h6),
+        from: linear::apply(linear::transpose(r_36), arm.kin.h4),
+    };
+    let t = given.t5();
     let is_ls = is_ls || t.is_ls;
-    let to = linear::apply(r_36, arm.kin.h6);
-    let from = linear::apply(linear::transpose(r_36), arm.kin.h4);
     let mut all = ArrayVec::new();
     for q5 in t.set.get_all().iter() {
-        all.push(wrist_q5(arm, r_36, to, from, q1, q2, q3, is_ls, *q5));
+        all.push(given.wrist_q5(q1, q2, q3, is_ls, *q5));
     }
     all
 }

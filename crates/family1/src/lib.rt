@@ -1,4 +1,4 @@
-// Family 1: spherical_two_parallel.
+// Family 1: spherical_two_parallel. (Why it gathers its answers by loops: families_shared, `append`.)
 #![tactic(auto)]
 
 ghost use Rattle.std.specs.Prelude.{◌≡◌};
@@ -30,40 +30,47 @@ fn from_wrist(r_0t: Matrix3, p_0t: Vector3, kin: Kinematics) -> Vector3
     -p_0t + linear::apply(r_0t, kin.p6) + kin.p0
 }
 
-#[tactic(auto, unfolding(crate::specs::SphericalTwoParallel::t3))]
-fn t3(kin: Kinematics, p_13: Vector3) -> Solved2<f64>
-    ensures { result ≡ t3 kin p_13 }
-{
-    subproblems::subproblem3(-kin.p3, kin.p2, kin.h3, linear::norm(p_13))
-}
-
-#[tactic(auto, unfolding(crate::specs::SphericalTwoParallel::q2))]
-fn q2(arm: &Arm, p_13: Vector3, q3: f64) -> Solved1<f64>
-    ensures { result ≡ q2 arm.now.kin arm.now.tolerance p_13 q3 }
-{
-    let kin = arm.kin;
-    let p = -kin.p2 - linear::apply(arm.h3.ahead(q3), kin.p3);
-    subproblems::subproblem1_within(p, p_13, kin.h2, arm.tolerance)
-}
-
-#[tactic(auto, unfolding(crate::specs::SphericalTwoParallel::at_q3, families_wrist::specs::Wrist::r_36))]
-fn at_q3(
-    arm: &Arm,
+// What q1 gives to all q3: r_10, the rotation back by q1, and p_13.
+#[derive(Clone, Copy)]
+struct GivenQ1<'a> {
+    arm: &'a Arm,
     r_0t: Matrix3,
-    r_10: Matrix3,
-    p_13: Vector3,
     q1: f64,
     q1_is_ls: bool,
-    q3_is_ls: bool,
-    q3: f64,
-) -> ArrayVec<Answer, 2>
-    requires { r_10 ≡ rot (negᵛ arm.now.kin.h1) q1 }
-    ensures { result.items ≡ at_q3 r_0t arm.now.kin arm.now.tolerance p_13 q1 q1_is_ls q3_is_ls q3 }
-{
-    let s = q2(arm, p_13, q3);
-    let r_36 = product4(arm.h3.back(q3), arm.h2.back(s.theta), r_10, r_0t);
-    let is_ls = q1_is_ls || s.is_ls || q3_is_ls;
-    wrist(arm, r_36, q1, s.theta, q3, is_ls)
+    r_10: Matrix3,
+    p_13: Vector3,
+    ghost back: { r_10 ≡ rot (negᵛ arm.now.kin.h1) q1 },
+}
+
+impl GivenQ1<'_> {
+    #[tactic(auto, unfolding(crate::specs::SphericalTwoParallel::t3))]
+    fn t3(&self) -> Solved2<f64>
+        ensures { result ≡ t3 self.now.arm.now.kin self.now.p_13 }
+    {
+        let kin = &self.arm.kin;
+        subproblems::subproblem3(-kin.p3, kin.p2, kin.h3, linear::norm(self.p_13))
+    }
+
+    #[tactic(auto, unfolding(crate::specs::SphericalTwoParallel::q2))]
+    fn q2(&self, q3: f64) -> Solved1<f64>
+        ensures { result ≡ q2 self.now.arm.now.kin self.now.arm.now.tolerance self.now.p_13 q3 }
+    {
+        let arm = self.arm;
+        let kin = &arm.kin;
+        let p = -kin.p2 - linear::apply(arm.h3.ahead(q3), kin.p3);
+        subproblems::subproblem1_within(p, self.p_13, kin.h2, arm.tolerance)
+    }
+
+    #[tactic(auto, unfolding(crate::specs::SphericalTwoParallel::at_q3, families_wrist::specs::Wrist::r_36))]
+    fn at_q3(&self, q3_is_ls: bool, q3: f64) -> ArrayVec<Answer, 2>
+        ensures { result.items ≡ at_q3 self.now.r_0t self.now.arm.now.kin self.now.arm.now.tolerance self.now.p_13 self.now.q1 self.now.q1_is_ls q3_is_ls q3 }
+    {
+        let arm = self.arm;
+        let s = self.q2(q3);
+        let r_36 = product4(arm.h3.back(q3), arm.h2.back(s.theta), self.r_10, self.r_0t);
+        let is_ls = self.q1_is_ls || s.is_ls || q3_is_ls;
+        wrist(arm, r_36, self.q1, s.theta, q3, is_ls)
+    }
 }
 
 #[tactic(auto, using(families_shared::proofs::Gathered::whole), unfolding(crate::specs::SphericalTwoParallel::at_q1, crate::specs::SphericalTwoParallel::p_13))]
@@ -79,14 +86,18 @@ fn at_q1(
     ensures { result.items ≡ at_q1 r_0t p_0t arm.now.kin arm.now.tolerance q1_is_ls q1 }
 {
     let r_10 = arm.h1.back(q1);
-    let p_13 = linear::apply(r_10, origin) + arm.kin.p1;
-    let t = t3(arm.kin, p_13);
+    let given = GivenQ1 {
+        arm,
+        r_0t,
+        q1,
+        q1_is_ls,
+        r_10,
+        p_13: linear::apply(r_10, origin) + arm.kin.p1,
+    };
+    let t = given.t3();
     let mut all = ArrayVec::new();
     for q3 in t.set.get_all().iter() {
-        append(
-            &mut all,
-            &at_q3(arm, r_0t, r_10, p_13, q1, q1_is_ls, t.is_ls, *q3),
-        );
+        append(&mut all, &given.at_q3(t.is_ls, *q3));
     }
     all
 }
