@@ -1,7 +1,7 @@
 // What the two families with three parallel axes share.
 #![tactic(auto)]
 
-ghost use Rattle.std.specs.Prelude.{◌≡◌, [], ◌∷◌};
+ghost use Rattle.std.specs.Prelude.{◌≡◌, ◌||◌, [], ◌∷◌};
 ghost use Rattle.linear.specs.Matrix.{apply};
 ghost use Rattle.subproblems.specs.Subproblem1.{subproblem1_within};
 ghost use Rattle.families_elbow.specs.Elbow.{theta3, elbow_q3, elbow};
@@ -28,52 +28,47 @@ fn theta3(kin: Kinematics, d_inner: Vector3) -> Solved2<f64>
     subproblems::subproblem3(-kin.p3, kin.p2, kin.h2, linear::norm(d_inner))
 }
 
-#[tactic(auto, unfolding(crate::specs::Elbow::elbow_q3))]
-fn elbow_q3(
-    arm: &Arm,
-    d_inner: Vector3,
-    theta14: f64,
-    q1: f64,
-    q5: f64,
-    q6: f64,
-    is_ls: bool,
-    q3: f64,
-) -> Answer
-    ensures { result ∷ [] ≡ elbow_q3 arm.now.kin arm.now.tolerance d_inner theta14 q1 q5 q6 is_ls q3 }
-{
-    let kin = arm.kin;
-    let p = kin.p2 + linear::apply(arm.h2.ahead(q3), kin.p3);
-    let s = subproblems::subproblem1_within(p, d_inner, kin.h2, arm.tolerance);
-    let q2 = s.theta;
-    Answer {
-        q1,
-        q2,
-        q3,
-        // By the wrap_to_pi of inverse_kinematics/auxiliary.rs: -PI at PI.
-        q4: float::wrap_to_pi(theta14 - q2 - q3),
-        q5,
-        q6,
-        is_ls: is_ls || s.is_ls,
-    }
+// What is known before q3, and gives it, q2 and q4. is_ls joins every flag but those of q2 and q3.
+#[derive(Clone, Copy)]
+pub struct GivenQ156 {
+    pub d_inner: Vector3,
+    pub theta14: f64,
+    pub q1: f64,
+    pub q5: f64,
+    pub q6: f64,
+    pub is_ls: bool,
 }
 
-#[tactic(auto, using(families_shared::proofs::Gathered::whole), unfolding(crate::specs::Elbow::elbow))]
-pub fn elbow(
-    arm: &Arm,
-    d_inner: Vector3,
-    theta14: f64,
-    q1: f64,
-    q5: f64,
-    q6: f64,
-    is_ls: bool,
-) -> ArrayVec<Answer, 2>
-    ensures { result.items ≡ elbow arm.now.kin arm.now.tolerance d_inner theta14 q1 q5 q6 is_ls }
-{
-    let t = theta3(arm.kin, d_inner);
-    let is_ls = is_ls || t.is_ls;
-    let mut all = ArrayVec::new();
-    for q3 in t.set.get_all().iter() {
-        all.push(elbow_q3(arm, d_inner, theta14, q1, q5, q6, is_ls, *q3));
+impl GivenQ156 {
+    #[tactic(auto, unfolding(crate::specs::Elbow::elbow_q3))]
+    fn elbow_q3(&self, arm: &Arm, q3_is_ls: bool, q3: f64) -> Answer
+        ensures { result ∷ [] ≡ elbow_q3 arm.now.kin arm.now.tolerance self.now.d_inner self.now.theta14 self.now.q1 self.now.q5 self.now.q6 (self.now.is_ls || q3_is_ls) q3 }
+    {
+        let kin = &arm.kin;
+        let p = kin.p2 + linear::apply(arm.h2.ahead(q3), kin.p3);
+        let s = subproblems::subproblem1_within(p, self.d_inner, kin.h2, arm.tolerance);
+        let q2 = s.theta;
+        Answer {
+            q1: self.q1,
+            q2,
+            q3,
+            // By the wrap_to_pi of inverse_kinematics/auxiliary.rs: -PI at PI.
+            q4: float::wrap_to_pi(self.theta14 - q2 - q3),
+            q5: self.q5,
+            q6: self.q6,
+            is_ls: self.is_ls || q3_is_ls || s.is_ls,
+        }
     }
-    all
+
+    #[tactic(auto, using(families_shared::proofs::Gathered::whole), unfolding(crate::specs::Elbow::elbow))]
+    pub fn elbow(&self, arm: &Arm) -> ArrayVec<Answer, 2>
+        ensures { result.items ≡ elbow arm.now.kin arm.now.tolerance self.now.d_inner self.now.theta14 self.now.q1 self.now.q5 self.now.q6 self.now.is_ls }
+    {
+        let t = theta3(arm.kin, self.d_inner);
+        let mut all = ArrayVec::new();
+        for q3 in t.set.get_all().iter() {
+            all.push(self.elbow_q3(arm, t.is_ls, *q3));
+        }
+        all
+    }
 }

@@ -1,4 +1,4 @@
-// Family 5: three_parallel.
+// Family 5: three_parallel. (Why it gathers its answers by loops: families_shared, `append`.)
 #![tactic(auto)]
 
 ghost use Rattle.std.specs.Prelude.{◌≡◌};
@@ -8,7 +8,7 @@ ghost use Rattle.family5.specs.ThreeParallel.{theta15, q6, at_q15, three_paralle
 
 use answers::Answer;
 use arrayvec::ArrayVec;
-use families_elbow::{elbow, theta14};
+use families_elbow::{GivenQ156, theta14};
 use families_shared::{Arm, append, p_16};
 use kinematics::Kinematics;
 use linear::{Matrix3, Vector3};
@@ -62,8 +62,15 @@ fn at_q15(arm: &Arm, r_06: Matrix3, p_16: Vector3, q15: Pair) -> ArrayVec<Answer
     let t = theta14(arm, to, r_45);
     let s = q6(arm, r_06, r_01, r_45);
     let r_14 = arm.h2.ahead(t.theta);
-    let d = d_inner(arm.kin, linear::apply(r_10, p_16), r_45, r_14);
-    elbow(arm, d, t.theta, q1, q5, s.theta, t.is_ls || s.is_ls)
+    let known = GivenQ156 {
+        d_inner: d_inner(arm.kin, linear::apply(r_10, p_16), r_45, r_14),
+        theta14: t.theta,
+        q1,
+        q5,
+        q6: s.theta,
+        is_ls: t.is_ls || s.is_ls,
+    };
+    known.elbow(arm)
 }
 
 #[tactic(auto, using(families_shared::proofs::Gathered::whole), unfolding(crate::specs::ThreeParallel::three_parallel))]
