@@ -1,4 +1,4 @@
-// Family 2: spherical_two_intersecting.
+// Family 2: spherical_two_intersecting. (Why it gathers its answers by loops: families_shared, `append`.)
 #![tactic(auto)]
 
 ghost use Rattle.std.specs.Prelude.{◌≡◌};
@@ -15,6 +15,7 @@ use linear::{Matrix3, Vector3};
 use solutionset::Pair;
 use subproblems::Solved2;
 
+// Not the p_16 of families 3 to 6: the Rust subtracts in another order here, and each difference rounds.
 #[tactic(auto, unfolding(crate::specs::SphericalTwoIntersecting::p_16))]
 fn p_16(r_0t: Matrix3, p_0t: Vector3, kin: Kinematics) -> Vector3
     ensures { result ≡ p_16 r_0t p_0t kin }
@@ -38,24 +39,29 @@ fn t12(arm: &Arm, p_16: Vector3, q3: f64) -> Solved2<Pair>
     subproblems::subproblem2(p_16, p, -kin.h1, kin.h2)
 }
 
-#[tactic(auto, unfolding(crate::specs::SphericalTwoIntersecting::at_q12, families_wrist::specs::Wrist::r_36))]
-fn at_q12(
-    arm: &Arm,
+// What q3 gives to all pairs (q1, q2): r_32, the rotation back by q3.
+#[derive(Clone, Copy)]
+struct GivenQ3<'a> {
+    arm: &'a Arm,
     r_0t: Matrix3,
-    r_32: Matrix3,
     q3: f64,
-    is_ls: bool,
-    q12: Pair,
-) -> ArrayVec<Answer, 2>
-    requires { r_32 ≡ rot (negᵛ arm.now.kin.h3) q3 }
-    ensures { result.items ≡ at_q12 r_0t arm.now.kin arm.now.tolerance q3 is_ls q12 }
-{
-    let Pair {
-        first: q1,
-        second: q2,
-    } = q12;
-    let r_36 = product4(r_32, arm.h2.back(q2), arm.h1.back(q1), r_0t);
-    wrist(arm, r_36, q1, q2, q3, is_ls)
+    r_32: Matrix3,
+    ghost back: { r_32 ≡ rot (negᵛ arm.now.kin.h3) q3 },
+}
+
+impl GivenQ3<'_> {
+    #[tactic(auto, unfolding(crate::specs::SphericalTwoIntersecting::at_q12, families_wrist::specs::Wrist::r_36))]
+    fn at_q12(&self, is_ls: bool, q12: Pair) -> ArrayVec<Answer, 2>
+        ensures { result.items ≡ at_q12 self.now.r_0t self.now.arm.now.kin self.now.arm.now.tolerance self.now.q3 is_ls q12 }
+    {
+        let Pair {
+            first: q1,
+            second: q2,
+        } = q12;
+        let arm = self.arm;
+        let r_36 = product4(self.r_32, arm.h2.back(q2), arm.h1.back(q1), self.r_0t);
+        wrist(arm, r_36, q1, q2, self.q3, is_ls)
+    }
 }
 
 #[tactic(auto, using(families_shared::proofs::Gathered::whole), unfolding(crate::specs::SphericalTwoIntersecting::at_q3))]
@@ -63,11 +69,17 @@ fn at_q3(arm: &Arm, r_0t: Matrix3, p_16: Vector3, t3_is_ls: bool, q3: f64) -> Ar
     ensures { result.items ≡ at_q3 r_0t arm.now.kin arm.now.tolerance p_16 t3_is_ls q3 }
 {
     let r_32 = arm.h3.back(q3);
+    let given = GivenQ3 {
+        arm,
+        r_0t,
+        q3,
+        r_32,
+    };
     let t = t12(arm, p_16, q3);
     let is_ls = t3_is_ls || t.is_ls;
     let mut all = ArrayVec::new();
     for q12 in t.set.get_all().iter() {
-        append(&mut all, &at_q12(arm, r_0t, r_32, q3, is_ls, *q12));
+        append(&mut all, &given.at_q12(is_ls, *q12));
     }
     all
 }

@@ -1,4 +1,4 @@
-// Family 3: spherical.
+// Family 3: spherical. (Why it gathers its answers by loops: families_shared, `append`.)
 #![tactic(auto)]
 
 ghost use Rattle.std.specs.Prelude.{◌≡◌};

@@ -5,4 +5,4 @@ use Rattle.family2.proofs.at_q3.Given as goal
 
 abbrev pub invariant-loop-q12 : goal.invariant-loop-q12
 invariant-loop-q12 l =
-    Gathered (at_q12 l.r_0t l.arm.kin l.arm.tolerance l.q3 l.is_ls) l.q12-items 2 l.q12-index l.all.items
+    Gathered (at_q12 l.fn.r_0t l.arm.kin l.arm.tolerance l.q3 l.is_ls) l.q12-items 2 l.q12-index l.all.items
