@@ -13,7 +13,7 @@ use Rattle.subproblems.specs.Subproblem1.{subproblem1_within, subproblem1}
 use Rattle.kinematics.specs.declared.Kinematics.{Kinematics}
 use Rattle.search_error.specs.Error as Plain
 use Rattle.search_error.specs.Error.{t64_given_q1, error_given_q1, error_i}
-use Rattle.search_error.specs.Fixed.{fixed, given_q1, t64, t23, gap, answer_error, error_of, error_at}
+use Rattle.search_error.specs.Fixed.{fixed, given_q1, t64, t23, p_13, gap, answer_error, error_of, error_at}
 
 module _ (kin : Kinematics) (r_06 : Matrix) (p_0t : Vector3) where
   pub t64_same : (q1 : Float) → t64 (fixed kin r_06 p_0t) (given_q1 (fixed kin r_06 p_0t) q1) ≡ t64_given_q1 kin r_06 p_0t q1
@@ -21,7 +21,7 @@ module _ (kin : Kinematics) (r_06 : Matrix) (p_0t : Vector3) where
   t64_same q1 = refl
 
   answer_same : (q1 : Float) (a : Pair) → answer_error (fixed kin r_06 p_0t) (given_q1 (fixed kin r_06 p_0t) q1) a ≡ Plain.answer_error kin r_06 p_0t q1 a
-  unfolding answer_error gap t23 given_q1 fixed rot product Plain.answer_error subproblem1 subproblem1_within
+  unfolding answer_error gap p_13 t23 given_q1 fixed rot product Plain.answer_error subproblem1 subproblem1_within
   answer_same q1 a = refl
 
   pub error_same : (q1 : Float) → error_of (fixed kin r_06 p_0t) q1 ≡ error_given_q1 kin r_06 p_0t q1

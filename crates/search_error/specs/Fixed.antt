@@ -16,6 +16,7 @@ use Rattle.families_shared.specs.Place.{p_16}
 use Rattle.search_error.specs.Error.{max_positive}
 use Rattle.search_error.specs.declared.Fixed.{Fixed}
 use Rattle.search_error.specs.declared.GivenQ1.{GivenQ1}
+use Rattle.search_error.specs.declared.GivenT64.{GivenT64}
 use Rattle.search_error.specs.declared.component.Branch.{Branch}
 
 unfoldable pub fixed : Kinematics → Matrix → Vector3 → Fixed
@@ -48,14 +49,28 @@ t64 g t =
     let d1 = dot g.kin.h2 (t.p -ᵛ g.kin.p2 -ᵛ g.kin.p3) in
     subproblem6 (t.h ∷ g.kin.h2 ∷ t.h ∷ g.kin.h2 ∷ []) (g.minus_h6 ∷ g.kin.h4 ∷ g.minus_h6 ∷ g.kin.h4 ∷ []) (g.kin.p5 ∷ g.kin.p4 ∷ g.kin.h5 ∷ g.minus_h5 ∷ []) d1 nought
 
+-- what an answer (t6, t4) of subproblem 6 gives at q1: r_34, r_56, and r_16, the Rust's r_01^T r_06 r_56^T
+unfoldable pub given_t64 : Fixed → GivenQ1 → Pair → GivenT64
+given_t64 g t a =
+    let r-56 = rot_unit g.u6 a.first in
+    record {
+      r_34 = rot_unit g.u4 a.second;
+      r_56 = r-56;
+      r_16 = product t.rotation (transpose r-56);
+    }
+
 -- r_16 and r_34 are the Rust's r_01^T r_06 r_56^T and r_34
 unfoldable pub t23 : Fixed → Matrix → Matrix → Float
 t23 g r-16 r-34 = subproblem1_theta (apply r-34 g.kin.h5) (apply r-16 g.kin.h5) g.kin.h2
 
+unfoldable pub p_13 : Fixed → GivenQ1 → Matrix → Matrix → Float → Vector3
+p_13 g t r-16 r-34 t23 =
+    let r-13 = rot_unit g.u2 t23 in
+    t.p -ᵛ apply r-13 g.kin.p3 -ᵛ apply (product r-13 r-34) g.kin.p4 -ᵛ apply r-16 g.kin.p5
+
 unfoldable pub gap : Fixed → GivenQ1 → Matrix → Matrix → Float
-gap g t r-16 r-34 =
-    let r-13 = rot_unit g.u2 (t23 g r-16 r-34) in
-    norm (t.p -ᵛ apply r-13 g.kin.p3 -ᵛ apply (product r-13 r-34) g.kin.p4 -ᵛ apply r-16 g.kin.p5)
+unfolding p_13
+gap g t r-16 r-34 = norm (p_13 g t r-16 r-34 (t23 g r-16 r-34))
 
 unfoldable pub answer_error : Fixed → GivenQ1 → Pair → Float
 answer_error g t a =

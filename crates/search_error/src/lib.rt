@@ -4,7 +4,8 @@
 
 ghost use Rattle.std.specs.Prelude.{◌≡◌};
 ghost use Rattle.search_error.specs.Error as Plain;
-ghost use Rattle.search_error.specs.Fixed.{fixed, given_q1, t64, t23, gap, answer_error, error_of, error_at, branch_error};
+ghost use Rattle.linear.specs.Matrix.{apply};
+ghost use Rattle.search_error.specs.Fixed.{fixed, given_q1, t64, given_t64, t23, p_13, answer_error, error_of, error_at, branch_error};
 
 mod component;
 
@@ -14,10 +15,8 @@ use kinematics::Kinematics;
 use linear::{Matrix3, Vector3};
 use solutionset::{Pair, SolutionSet4};
 
-const MIN_POSITIVE: f64 = 2.2250738585072014e-308;
-
 // The arm; the axes that are rotated about, normalised; two negations; r_06; p_16; and the length of p2,
-// or MIN_POSITIVE if that is more.
+// or f64::MIN_POSITIVE if that is more.
 #[derive(Clone, Copy)]
 pub struct Fixed {
     pub kin: Kinematics,
@@ -41,11 +40,25 @@ pub struct GivenQ1 {
     pub p: Vector3,
 }
 
-// The larger of x and MIN_POSITIVE; of a NaN the latter.
+// What an answer (t6, t4) of subproblem 6 gives at q1: the rotations by t4 and by t6, and r_16, which is
+// r_01^T r_06 r_56^T.
+#[derive(Clone, Copy)]
+pub struct GivenT64 {
+    pub r_34: Matrix3,
+    pub r_56: Matrix3,
+    pub r_16: Matrix3,
+}
+
+// The larger of x and MIN_POSITIVE; of a NaN the latter. (f64::max promises of two numbers that compare
+// equal only that it gives one of them, so this equation does not follow from it.)
 fn max_positive(x: f64) -> f64
     ensures { result ≡ Plain.max_positive x }
 {
-    if x > MIN_POSITIVE { x } else { MIN_POSITIVE }
+    if x > f64::MIN_POSITIVE {
+        x
+    } else {
+        f64::MIN_POSITIVE
+    }
 }
 
 impl Fixed {
@@ -99,37 +112,57 @@ impl Fixed {
         )
     }
 
-    #[tactic(auto, unfolding(crate::specs::Fixed::t23))]
-    fn t23(&self, r_16: Matrix3, r_34: Matrix3) -> f64
-        ensures { result ≡ t23 self.now r_16 r_34 }
+    #[tactic(auto, unfolding(crate::specs::Fixed::given_t64))]
+    pub fn given_t64(&self, t: &GivenQ1, a: Pair) -> GivenT64
+        ensures { result ≡ given_t64 self.now t.now a }
     {
-        let p1 = linear::apply(r_34, self.kin.h5);
-        let p2 = linear::apply(r_16, self.kin.h5);
+        let r_56 = linear::rot_unit(self.u6, a.first);
+        GivenT64 {
+            r_34: linear::rot_unit(self.u4, a.second),
+            r_56,
+            r_16: linear::product(t.rotation, linear::transpose(r_56)),
+        }
+    }
+
+    // The vectors that t23 turns one to the other: r_34 * h5 and r_16 * h5.
+    pub fn h5_turned(&self, r: &GivenT64) -> (Vector3, Vector3)
+        ensures { result ≡ (apply r.now.r_34 self.now.kin.h5, apply r.now.r_16 self.now.kin.h5) }
+    {
+        (
+            linear::apply(r.r_34, self.kin.h5),
+            linear::apply(r.r_16, self.kin.h5),
+        )
+    }
+
+    #[tactic(auto, unfolding(crate::specs::Fixed::t23))]
+    fn t23(&self, r: &GivenT64) -> f64
+        ensures { result ≡ t23 self.now r.now.r_16 r.now.r_34 }
+    {
+        let (p1, p2) = self.h5_turned(r);
         subproblems::subproblem1_theta(p1, p2, self.kin.h2)
     }
 
-    // How long p2 would have to be.
-    #[tactic(auto, unfolding(crate::specs::Fixed::gap))]
-    fn gap(&self, t: &GivenQ1, r_16: Matrix3, r_34: Matrix3) -> f64
-        ensures { result ≡ gap self.now t.now r_16 r_34 }
+    // What p2 has to be turned to, if joints 2 and 3 together turn by t23.
+    #[tactic(auto, unfolding(crate::specs::Fixed::p_13))]
+    pub fn p_13(&self, t: &GivenQ1, r: &GivenT64, t23: f64) -> Vector3
+        ensures { result ≡ p_13 self.now t.now r.now.r_16 r.now.r_34 t23 }
     {
-        let r_13 = linear::rot_unit(self.u2, self.t23(r_16, r_34));
+        let r_13 = linear::rot_unit(self.u2, t23);
         let p3 = t.p - linear::apply(r_13, self.kin.p3);
-        let r_14 = linear::product(r_13, r_34);
+        let r_14 = linear::product(r_13, r.r_34);
         let p4 = p3 - linear::apply(r_14, self.kin.p4);
-        linear::norm(p4 - linear::apply(r_16, self.kin.p5))
+        p4 - linear::apply(r.r_16, self.kin.p5)
     }
 
-    // What one answer sets. Relative to |p2|, so that the search's touch threshold is independent of
-    // the length unit.
-    #[tactic(auto, unfolding(crate::specs::Fixed::answer_error))]
+    // What one answer sets: how long p2 would have to be, less its length. Relative to |p2|, so that the
+    // search's touch threshold is independent of the length unit.
+    #[tactic(auto, unfolding(crate::specs::Fixed::answer_error, crate::specs::Fixed::gap, crate::specs::Fixed::given_t64))]
     pub fn answer_error(&self, t: &GivenQ1, a: Pair) -> f64
         ensures { result ≡ answer_error self.now t.now a }
     {
-        let r_56 = linear::rot_unit(self.u6, a.first);
-        let r_16 = linear::product(t.rotation, linear::transpose(r_56));
-        let r_34 = linear::rot_unit(self.u4, a.second);
-        (self.gap(t, r_16, r_34) - self.l2) / self.l2
+        let r = self.given_t64(t, a);
+        let gap = linear::norm(self.p_13(t, &r, self.t23(&r)));
+        (gap - self.l2) / self.l2
     }
 
     // The error's four components at q1, all infinite at first; component i is set from answer i.
@@ -138,10 +171,10 @@ impl Fixed {
         ensures { result ≡ error_of self.now q1 }
     {
         let t = self.given_q1(q1);
-        let answers = self.t64(&t);
+        let answers = self.t64(&t).get_all();
         let mut e = [float::infinity(); 4];
-        for i in 0..answers.size() {
-            e[i] = self.answer_error(&t, answers.at(i));
+        for (i, a) in answers.iter().enumerate() {
+            e[i] = self.answer_error(&t, *a);
         }
         e
     }
