@@ -1,89 +1,104 @@
--- `number-above` orders the numbers, with a NaN above them; so do comparisons by one number and, where these are equal, by more.
-use mathlib.Core.Path.{◌≡◌}
-use mathlib.Core.Bool.{Bool, true, false, true≢false}
+-- The definition's comparisons are std's order of keys, number by number, with a NaN last; and such an order orders.
+use mathlib.Core.Path.{◌≡◌, refl, sym, ap, ◌∙◌}
+use mathlib.Core.Bool.{Bool, true, false, cond, true≢false}
 use lib.Ieee.{Float, lt, is_nan}
-use Rattle.scalar.proofs.Order.{by_test, lt_one_way, lt_through, lt_number, lt_nan}
-use Rattle.triple_sort.specs.Sort.{number_above, then_by, triple_above, ordered_above}
+use Rattle.std.specs.Prelude.{Some}
+use Rattle.std.specs.Cmp.{IsTotalOrder}
+use Rattle.std.proofs.Common.{Ordering, Less, Equal, Greater}
+use Rattle.std.specs.Ordering.{nan_last_cmp, is_gt, is_lt, is_some_and, ordering_reverse, ordering_then, partial_ordering_then, then_cmp, on}
+use Rattle.std.proofs.lemmas.Cmp.{upto, on_total, then_total}
+use Rattle.std.proofs.lemmas.Float.{nan_last}
+use Rattle.scalar.proofs.Order.{by_test, lt_one_way, lt_nan}
+use Rattle.triple_sort.specs.Sort.{number_above, triple_above, ordered_above}
 use Rattle.triple_sort.specs.Sorted.{Orders}
+use Rattle.solutionset.specs.declared.Triple.{Triple}
+use Rattle.triple_sort.specs.declared.Ordered.{Ordered}
 
-number_orders : Orders number_above
+above_is : (a b : Float) → number_above a b ≡ is_gt (nan_last_cmp a b)
 unfolding number_above
-number_orders =
-    record {
-      one_way =
-          (λ a b h.
-          by_test (is_nan a)
-          (λ n. by_test (is_nan b) (λ m. let z : true ≡ false = cc in absurd (true≢false z)) (λ m. let l = lt_nan a b n in cc))
-          (λ n.
-          let l : lt b a ≡ true = cc in
-          let m = lt_number b a l in
-          let w = lt_one_way b a l in
-          cc));
-      through =
-          (λ a b c h g.
-          by_test (is_nan a)
-          (λ n.
-          by_test (is_nan b)
-          (λ m. by_test (is_nan c) (λ k. cc) (λ k. let z : true ≡ false = cc in absurd (true≢false z)))
-          (λ m. let z : true ≡ false = cc in absurd (true≢false z)))
-          (λ n.
-          by_test (is_nan b)
-          (λ m.
-          by_test (is_nan c) (λ k. let l = lt_nan c a k in cc)
-          (λ k. let z : true ≡ false = cc in absurd (true≢false z)))
-          (λ m.
-          let l : lt b a ≡ false = cc in
-          let k : lt c b ≡ false = cc in
-          let w = lt_through a b c n m l k in
-          cc)));
-    }
+above_is a b =
+    by_test (is_nan a) (λ n. by_test (is_nan b) (λ m. cc) (λ m. cc))
+    (λ n.
+    by_test (is_nan b) (λ m. let l = lt_nan b a m in cc)
+    (λ m.
+    by_test (lt a b) (λ l. let w = lt_one_way a b l in cc) (λ l. by_test (lt b a) (λ k. cc) (λ k. cc))))
 
--- by a number of each first, and then by another comparison
-module _ {A : Type 0} (f : A → Float) where
-  by_number : Orders (λ a b. number_above (f a) (f b))
-  by_number =
+reversed : (o : Ordering) → is_gt (ordering_reverse o) ≡ is_lt o
+reversed Less = refl
+reversed Equal = refl
+reversed Greater = refl
+
+below_is : (a b : Float) → number_above b a ≡ is_lt (nan_last_cmp a b)
+below_is a b = above_is b a ∙ ap is_gt (nan_last.antisymm b a) ∙ reversed (nan_last_cmp a b)
+
+taken : (o p : Ordering) {above below rest : Bool}
+    → above ≡ is_gt o
+    → below ≡ is_lt o
+    → rest ≡ is_gt p
+    → cond above true (cond below false rest) ≡ is_gt (ordering_then o p)
+taken Less p e f g = rw (e, f)
+taken Equal p e f g = rw (e, f) g
+taken Greater p e f g = rw e
+
+abbrev triple_cmp : Triple → Triple → Ordering
+triple_cmp = then_cmp (on (λ a. a.first) nan_last_cmp) (then_cmp (on (λ a. a.second) nan_last_cmp) (on (λ a. a.third) nan_last_cmp))
+
+abbrev ordered_cmp : Ordered → Ordered → Ordering
+ordered_cmp = then_cmp (on (λ a. a.ordering) nan_last_cmp) (on (λ a. a.solution) triple_cmp)
+
+triple_is : (a b : Triple) → triple_above a b ≡ is_gt (triple_cmp a b)
+unfolding triple_above
+triple_is a b =
+    taken _ _ (above_is a.first b.first) (below_is a.first b.first)
+    (taken _ _ (above_is a.second b.second) (below_is a.second b.second) (above_is a.third b.third))
+
+ordered_is : (a b : Ordered) → ordered_above a b ≡ is_gt (ordered_cmp a b)
+unfolding ordered_above
+ordered_is a b =
+    taken _ _ (above_is a.ordering b.ordering) (below_is a.ordering b.ordering) (triple_is a.solution b.solution)
+
+module _ {A : Type 0} {above : A → A → Bool} {R : A → A → Ordering} (same : (a b : A) → above a b ≡ is_gt (R a b)) (total : IsTotalOrder R) where
+  other_way : (o : Ordering) → is_gt o ≡ true → is_gt (ordering_reverse o) ≡ false
+  other_way Less h = absurd (true≢false (sym h))
+  other_way Equal h = absurd (true≢false (sym h))
+  other_way Greater h = refl
+
+  of_total : Orders above
+  of_total =
       record {
-        one_way = (λ a b. number_orders.one_way (f a) (f b));
-        through = (λ a b c. number_orders.through (f a) (f b) (f c));
+        one_way = (λ a b h. same b a ∙ ap is_gt (total.antisymm b a) ∙ other_way (R a b) (sym (same a b) ∙ h));
+        through = (λ a b c h g. same a c ∙ upto total a b c (sym (same a b) ∙ h) (sym (same b c) ∙ g));
       }
 
-  module _ (rest : A → A → Bool) (orders : Orders rest) where
-    then_orders : Orders (λ a b. then_by (f a) (f b) (rest a b))
-    then_orders =
-        record {
-          one_way =
-              (λ a b h.
-              by_test (number_above (f a) (f b)) (λ t. let w = number_orders.one_way (f a) (f b) t in cc)
-              (λ t.
-              by_test (number_above (f b) (f a)) (λ s. let z : true ≡ false = cc in absurd (true≢false z))
-              (λ s. let l : rest a b ≡ true = cc in let w = orders.one_way a b l in cc)));
-          through =
-              (λ a b c h g.
-              by_test (number_above (f a) (f b)) (λ t. let z : true ≡ false = cc in absurd (true≢false z))
-              (λ ab.
-              by_test (number_above (f b) (f c)) (λ t. let z : true ≡ false = cc in absurd (true≢false z))
-              (λ bc.
-              let ac = number_orders.through (f a) (f b) (f c) ab bc in
-              by_test (number_above (f c) (f a)) (λ ca. cc)
-              (λ ca.
-              let ba = number_orders.through (f b) (f c) (f a) bc ca in
-              let cb = number_orders.through (f c) (f a) (f b) ca ab in
-              let i : rest a b ≡ false = cc in
-              let j : rest b c ≡ false = cc in
-              let k = orders.through a b c i j in
-              cc))));
-        }
+abbrev triple_total : IsTotalOrder triple_cmp
+triple_total =
+    then_total (on_total (λ a. a.first) nan_last)
+    (then_total (on_total (λ a. a.second) nan_last) (on_total (λ a. a.third) nan_last))
 
 pub triple_orders : Orders triple_above
-unfolding triple_above
-triple_orders =
-    then_orders (λ a. a.first) _ (then_orders (λ a. a.second) _ (by_number (λ a. a.third)))
+triple_orders = of_total triple_is triple_total
 
 pub ordered_orders : Orders ordered_above
-unfolding ordered_above
-ordered_orders =
-    then_orders (λ a. a.ordering) _
-    (record {
-      one_way = (λ a b. triple_orders.one_way a.solution b.solution);
-      through = (λ a b c. triple_orders.through a.solution b.solution c.solution);
-    })
+ordered_orders = of_total ordered_is (then_total (on_total (λ a. a.ordering) nan_last) (on_total (λ a. a.solution) triple_total))
+
+-- the order of a tuple groups from the left
+regrouped : (o p q r : Ordering)
+    → is_some_and is_gt (partial_ordering_then (partial_ordering_then (partial_ordering_then (Some o) (Some p)) (Some q)) (Some r))
+    ≡ is_gt (ordering_then o (ordering_then p (ordering_then q r)))
+regrouped Less p q r = refl
+regrouped Greater p q r = refl
+regrouped Equal Less q r = refl
+regrouped Equal Greater q r = refl
+regrouped Equal Equal Less r = refl
+regrouped Equal Equal Greater r = refl
+regrouped Equal Equal Equal r = refl
+
+pub key_above : (a b : Ordered)
+    → is_some_and is_gt
+    (partial_ordering_then
+    (partial_ordering_then
+    (partial_ordering_then (Some (nan_last_cmp a.ordering b.ordering)) (Some (nan_last_cmp a.solution.first b.solution.first)))
+    (Some (nan_last_cmp a.solution.second b.solution.second)))
+    (Some (nan_last_cmp a.solution.third b.solution.third)))
+    ≡ ordered_above a b
+key_above a b = regrouped _ _ _ _ ∙ sym (ordered_is a b)

@@ -3,9 +3,17 @@
 
 ghost use Rattle.std.specs.Prelude.{◌≡◌};
 ghost use Rattle.triple_sort.specs.Port.{in_order};
-ghost use Rattle.triple_sort.specs.Sort.{number_above, triple_above, ordered_above, pass};
+ghost use Rattle.triple_sort.specs.Sort.{ordered_above, pass};
 
 use solutionset::Triple;
+use std::cmp::OrderedFloat;
+
+type Key = (
+    OrderedFloat<f64>,
+    OrderedFloat<f64>,
+    OrderedFloat<f64>,
+    OrderedFloat<f64>,
+);
 
 // A candidate of subproblem 5 with the number that decides whether it is kept.
 #[derive(Clone, Copy, Default)]
@@ -14,46 +22,26 @@ pub struct Ordered {
     pub solution: Triple,
 }
 
-// Whether a compares above b: a NaN is above every number and equal to a NaN.
-#[tactic(auto, unfolding(crate::specs::Sort::number_above))]
-fn number_above(a: f64, b: f64) -> bool
-    ensures { result ≡ number_above a b }
-{
-    if a.is_nan() { !b.is_nan() } else { b < a }
+impl Ordered {
+    // What candidates compare by: the first unequal number, with a NaN above every number.
+    fn key(self) -> Key
+        ensures { result ≡ (record { 0 = self.ordering }, record { 0 = self.solution.first }, record { 0 = self.solution.second }, record { 0 = self.solution.third }) }
+    {
+        (
+            OrderedFloat(self.ordering),
+            OrderedFloat(self.solution.first),
+            OrderedFloat(self.solution.second),
+            OrderedFloat(self.solution.third),
+        )
+    }
 }
 
-// By the first unequal number.
-#[tactic(auto, unfolding(crate::specs::Sort::triple_above))]
-fn triple_above(a: Triple, b: Triple) -> bool
-    ensures { result ≡ triple_above a b }
-{
-    if number_above(a.first, b.first) {
-        return true;
-    }
-    if number_above(b.first, a.first) {
-        return false;
-    }
-    if number_above(a.second, b.second) {
-        return true;
-    }
-    if number_above(b.second, a.second) {
-        return false;
-    }
-    number_above(a.third, b.third)
-}
-
-// By the ordering value first.
-#[tactic(auto, unfolding(crate::specs::Sort::ordered_above))]
+// Whether a compares above b.
+#[tactic(auto, using(crate::proofs::NumberOrder::key_above))]
 fn ordered_above(a: Ordered, b: Ordered) -> bool
     ensures { result ≡ ordered_above a b }
 {
-    if number_above(a.ordering, b.ordering) {
-        return true;
-    }
-    if number_above(b.ordering, a.ordering) {
-        return false;
-    }
-    triple_above(a.solution, b.solution)
+    a.key() > b.key()
 }
 
 // A pass: two neighbours are exchanged exactly if the earlier is above the later.
