@@ -58,7 +58,7 @@ fn turned_4(t: bool, a: Vector4) -> Vector4
 fn lead(x: f64, n: f64) -> f64
     ensures { result ≡ x ⊕ turned (lt x nought) n }
 {
-    if x < 0.0 { x + -n } else { x + n }
+    x + turned(x < 0.0, n)
 }
 
 fn dot_4(a: Vector4, b: Vector4) -> f64
@@ -80,22 +80,13 @@ fn lower(a: Vector4) -> Vector3
 fn zero_3(a: Vector3) -> bool
     ensures { result ≡ is_zero (entries_3 a) }
 {
-    if a.x == 0.0 {
-        if a.y == 0.0 {
-            return a.z == 0.0;
-        }
-        return false;
-    }
-    false
+    a.x == 0.0 && a.y == 0.0 && a.z == 0.0
 }
 
 fn zero_4(a: Vector4) -> bool
     ensures { result ≡ is_zero (entries a) }
 {
-    if a.x == 0.0 {
-        return zero_3(lower(a));
-    }
-    false
+    a.x == 0.0 && zero_3(lower(a))
 }
 
 #[tactic(auto, unfolding(crate::specs::Port::reflection_4))]
@@ -181,6 +172,7 @@ fn both(
 }
 
 // The columns of Q: a, b, c and d are those of Q transposed, what the identity becomes.
+#[tactic(auto, unfolding(crate::specs::Port::columns))]
 fn columns(m: Option<Reflection<Vector4>>, n: Option<Reflection<Vector3>>) -> Columns4
     ensures { result ≡ columns m n }
 {
@@ -197,20 +189,17 @@ fn columns(m: Option<Reflection<Vector4>>, n: Option<Reflection<Vector3>>) -> Co
 }
 
 // The factors, with the diagonal of R made positive.
+#[tactic(auto, unfolding(crate::specs::Port::factors))]
 fn factors(q: Columns4, r00: f64, r01: f64, r11: f64) -> QrFactors
     ensures { result ≡ factors q r00 r01 r11 }
 {
-    let c0 = q.c0;
-    let c1 = q.c1;
-    let c2 = q.c2;
-    let c3 = q.c3;
     let first = r00 < 0.0;
     let second = r11 < 0.0;
     QrFactors {
-        q0: turned_4(first, c0),
-        q1: turned_4(second, c1),
-        q2: c2,
-        q3: c3,
+        q0: turned_4(first, q.c0),
+        q1: turned_4(second, q.c1),
+        q2: q.c2,
+        q3: q.c3,
         r: Matrix2 {
             m00: turned(first, r00),
             m01: turned(first, r01),
@@ -221,6 +210,7 @@ fn factors(q: Columns4, r00: f64, r01: f64, r11: f64) -> QrFactors
 }
 
 // The factors of the matrix whose columns are a0 and a1.
+#[tactic(auto, using(crate::proofs::Steps::steps))]
 pub fn qr(a0: Vector4, a1: Vector4) -> QrFactors
     ensures { result ≡ qr a0 a1 }
 {
