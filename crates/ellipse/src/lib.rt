@@ -4,9 +4,7 @@
 ghost use Rattle.std.specs.Prelude.{◌≡◌};
 ghost use Rattle.ellipse.specs.Ellipse.{coefficients, z0, z1, z2, z3, z4, quartic_in_y, x_of, point, solve_two_ellipse_numeric};
 
-use polynomial::{
-    EPSILON, Matrix2, Vector2, Vector5, real_parts, real_quartic, solve_quartic_roots,
-};
+use polynomial::{EPSILON, Matrix2, Quartic, Vector2, Vector5, real_parts, solve_quartic_roots};
 use solutionset::{Pair, SolutionSet4};
 
 // The coefficients of an ellipse: a x x + b x y + c y y + d x + e y + f = 0.
@@ -37,17 +35,19 @@ fn coefficients(xm: Vector2, xn: Matrix2) -> Conic
     }
 }
 
-// The coefficients of the quartic in y, of the ellipses g and h.
+// The coefficients of the quartic in y, of the ellipses g and h: a to f are of g, a1 to e1 and fq of h, the
+// names of the Rust's formulas. No struct holds the two: each formula would only take it apart again.
 #[tactic(auto, unfolding(crate::specs::Ellipse::z0))]
 fn z0(g: Conic, h: Conic) -> f64
     ensures { result ≡ z0 g h }
 {
-    let a = g.a;
-    let d = g.d;
-    let f = g.f;
-    let a1 = h.a;
-    let d1 = h.d;
-    let fq = h.f;
+    let Conic { a, d, f, .. } = g;
+    let Conic {
+        a: a1,
+        d: d1,
+        f: fq,
+        ..
+    } = h;
     f * a * d1 * d1 + a * a * fq * fq - d * a * d1 * fq + a1 * a1 * f * f
         - 2.0 * a * fq * a1 * f
         - d * d1 * a1 * f
@@ -58,16 +58,15 @@ fn z0(g: Conic, h: Conic) -> f64
 fn z1(g: Conic, h: Conic) -> f64
     ensures { result ≡ z1 g h }
 {
-    let a = g.a;
-    let b = g.b;
-    let d = g.d;
-    let e = g.e;
-    let f = g.f;
-    let a1 = h.a;
-    let b1 = h.b;
-    let d1 = h.d;
-    let e1 = h.e;
-    let fq = h.f;
+    let Conic { a, b, d, e, f, .. } = g;
+    let Conic {
+        a: a1,
+        b: b1,
+        d: d1,
+        e: e1,
+        f: fq,
+        ..
+    } = h;
     e1 * d * d * a1 - fq * d1 * a * b - 2.0 * a * fq * a1 * e - f * a1 * b1 * d
         + 2.0 * d1 * b1 * a * f
         + 2.0 * e1 * fq * a * a
@@ -85,18 +84,15 @@ fn z1(g: Conic, h: Conic) -> f64
 fn z2(g: Conic, h: Conic) -> f64
     ensures { result ≡ z2 g h }
 {
-    let a = g.a;
-    let b = g.b;
-    let c = g.c;
-    let d = g.d;
-    let e = g.e;
-    let f = g.f;
-    let a1 = h.a;
-    let b1 = h.b;
-    let c1 = h.c;
-    let d1 = h.d;
-    let e1 = h.e;
-    let fq = h.f;
+    let Conic { a, b, c, d, e, f } = g;
+    let Conic {
+        a: a1,
+        b: b1,
+        c: c1,
+        d: d1,
+        e: e1,
+        f: fq,
+    } = h;
     e1 * e1 * a * a + 2.0 * c1 * fq * a * a - e * a1 * d1 * b + fq * a1 * b * b
         - e * a1 * b1 * d
         - fq * b1 * a * b
@@ -121,16 +117,15 @@ fn z2(g: Conic, h: Conic) -> f64
 fn z3(g: Conic, h: Conic) -> f64
     ensures { result ≡ z3 g h }
 {
-    let a = g.a;
-    let b = g.b;
-    let c = g.c;
-    let d = g.d;
-    let e = g.e;
-    let a1 = h.a;
-    let b1 = h.b;
-    let c1 = h.c;
-    let d1 = h.d;
-    let e1 = h.e;
+    let Conic { a, b, c, d, e, .. } = g;
+    let Conic {
+        a: a1,
+        b: b1,
+        c: c1,
+        d: d1,
+        e: e1,
+        ..
+    } = h;
     -2.0 * a * a1 * c * e1 + e1 * a1 * b * b + 2.0 * c1 * b * a1 * d - c * a1 * b1 * d
         + b1 * b1 * a * e
         - e1 * b1 * a * b
@@ -148,12 +143,13 @@ fn z3(g: Conic, h: Conic) -> f64
 fn z4(g: Conic, h: Conic) -> f64
     ensures { result ≡ z4 g h }
 {
-    let a = g.a;
-    let b = g.b;
-    let c = g.c;
-    let a1 = h.a;
-    let b1 = h.b;
-    let c1 = h.c;
+    let Conic { a, b, c, .. } = g;
+    let Conic {
+        a: a1,
+        b: b1,
+        c: c1,
+        ..
+    } = h;
     a * a * c1 * c1 - 2.0 * a * c1 * a1 * c + a1 * a1 * c * c - b * a * b1 * c1 - b * b1 * a1 * c
         + b * b * a1 * c1
         + c * a * b1 * b1
@@ -177,18 +173,15 @@ fn quartic_in_y(g: Conic, h: Conic) -> Vector5
 fn x_of(g: Conic, h: Conic, y: f64) -> f64
     ensures { result ≡ x_of g h y }
 {
-    let a = g.a;
-    let b = g.b;
-    let c = g.c;
-    let d = g.d;
-    let e = g.e;
-    let f = g.f;
-    let a1 = h.a;
-    let b1 = h.b;
-    let c1 = h.c;
-    let d1 = h.d;
-    let e1 = h.e;
-    let fq = h.f;
+    let Conic { a, b, c, d, e, f } = g;
+    let Conic {
+        a: a1,
+        b: b1,
+        c: c1,
+        d: d1,
+        e: e1,
+        f: fq,
+    } = h;
     let y_sq = y * y;
     -((a * c1 * y_sq + a * fq - a1 * c * y_sq + a * e1 * y - a1 * e * y + -a1 * f)
         / (a * b1 * y + a * d1 - a1 * b * y + -a1 * d))
@@ -213,7 +206,7 @@ pub fn solve_two_ellipse_numeric(
 {
     let g = coefficients(xm1, xn1);
     let h = coefficients(xm2, xn2);
-    let found = solve_quartic_roots(real_quartic(quartic_in_y(g, h)));
+    let found = solve_quartic_roots(Quartic::from(quartic_in_y(g, h)));
     let reals = real_parts(EPSILON, &found);
     SolutionSet4::from_vec(&reals).map(|y| point(g, h, y))
 }

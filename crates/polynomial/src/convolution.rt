@@ -9,8 +9,7 @@ use linear::Vector3;
 pub fn vec_self_convolve_2(v: Vector2) -> Vector3
     ensures { result ≡ vec_self_convolve_2 v }
 {
-    let a = v.x;
-    let b = v.y;
+    let Vector2 { x: a, y: b } = v;
     Vector3 {
         x: a * a,
         y: 2.0 * a * b,
@@ -22,9 +21,7 @@ pub fn vec_self_convolve_2(v: Vector2) -> Vector3
 pub fn vec_self_convolve_3(v: Vector3) -> Vector5
     ensures { result ≡ vec_self_convolve_3 v }
 {
-    let a = v.x;
-    let b = v.y;
-    let c = v.z;
+    let Vector3 { x: a, y: b, z: c } = v;
     Vector5 {
         a: a * a,
         b: 2.0 * a * b,
@@ -38,12 +35,8 @@ pub fn vec_self_convolve_3(v: Vector3) -> Vector5
 pub fn vec_convolve_3(v1: Vector3, v2: Vector3) -> Vector5
     ensures { result ≡ vec_convolve_3 v1 v2 }
 {
-    let a = v1.x;
-    let b = v1.y;
-    let c = v1.z;
-    let x = v2.x;
-    let y = v2.y;
-    let z = v2.z;
+    let Vector3 { x: a, y: b, z: c } = v1;
+    let Vector3 { x, y, z } = v2;
     Vector5 {
         a: a * x,
         b: b * x + a * y,

@@ -31,6 +31,8 @@ fn p2(a: Complex, b: Complex, c: Complex, d: Complex) -> Complex
     b * 2.0 * b * b - a * 9.0 * b * c + a * 27.0 * a * d
 }
 
+// q1 and q2 differ in the sign before 4.0, which is each one's formula in the Rust: one function with the
+// sign as a parameter would be no plainer.
 #[tactic(auto, using(crate::proofs::Literals::four), unfolding(crate::specs::Cubic::q1_of))]
 fn q1(p1: Complex, p2: Complex) -> Complex
     ensures { result ≡ q1_of p1 p2 }

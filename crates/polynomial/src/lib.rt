@@ -16,13 +16,14 @@ pub use cubic_roots::solve_cubic_roots;
 use linear::Vector3;
 pub use quadratic_roots::solve_quadratic_roots;
 pub use quartic_roots::solve_quartic_roots;
-pub use reals::{real_parts, real_quartic};
+pub use reals::real_parts;
 pub use triangular::solve_lower_triangular_system_2x2;
 
 // Below it a leading coefficient counts as zero, and so does an imaginary part.
 pub const EPSILON: f64 = 1e-12;
 
-// Vectors have named fields, and not an array of N: each function here is of one size.
+// Vectors have named fields, and not an array of N: each function here is of one size, and its formula
+// names the entries.
 #[derive(Clone, Copy)]
 pub struct Vector2 {
     pub x: f64,
@@ -55,7 +56,8 @@ pub struct Cone {
     pub r: Vector3,
 }
 
-// Polynomials with complex coefficients, from the leading one on.
+// Polynomials with complex coefficients, from the leading one on. Each degree has a type, and its functions
+// take `a` to `e` apart: these are the names that the Rust's formulas give to them.
 #[derive(Clone, Copy)]
 pub struct Quadratic {
     pub a: Complex,

@@ -80,6 +80,7 @@ fn centre(a: Complex, b: Complex) -> Complex
     -b / (a * 4.0)
 }
 
+// Two functions of one line each, as the definition has them: they differ in an operator.
 // (p5 - p6).sqrt() / 2.0
 #[tactic(auto, unfolding(crate::specs::Quartic::minus_root))]
 fn minus_root(p5: Complex, p6: Complex) -> Complex

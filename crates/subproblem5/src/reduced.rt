@@ -9,7 +9,8 @@ use arrayvec::ArrayVec;
 use solutionset::{SolutionSet4, Triple};
 use triple_sort::{Ordered, sort};
 
-// The solutions with one ordering value for all: as such they sort by the triple alone.
+// The solutions with one ordering value for all: as such they sort by the triple alone. A loop of pushes,
+// and not `map` and `collect`: that takes an allocator, and may fail.
 fn unordered(solutions: &ArrayVec<Triple, 16>) -> ArrayVec<Ordered, 16>
     ensures { result.items ≡ map unordered solutions.now.items }
 {
@@ -28,14 +29,10 @@ fn with_ordering(t: &mut [Ordered])
     ensures { t.new ≡ with_gaps infinity t.old }
 {
     let mut last = float::infinity();
-    for i in 0..t.len() {
-        let solution = t[i].solution;
-        let delta = solution.first - last;
-        t[i] = Ordered {
-            ordering: 1.0 / (delta * delta),
-            solution,
-        };
-        last = solution.first;
+    for o in t.iter_mut() {
+        let delta = o.solution.first - last;
+        o.ordering = 1.0 / (delta * delta);
+        last = o.solution.first;
     }
 }
 

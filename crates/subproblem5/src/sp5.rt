@@ -10,10 +10,13 @@ use crate::{Circle, Point, Points};
 use arrayvec::ArrayVec;
 use linear::Vector3;
 use norms::norms_agree;
-use polynomial::{Cone, Vector2, Vector5};
+use polynomial::{Cone, Quartic, Vector2, Vector5};
 use solutionset::{SolutionSet4, Triple};
 use subproblems::shared::columns;
 use subproblems::{Columns, subproblem1_theta};
+
+// Below it an imaginary part counts as zero.
+const EPSILON: f64 = 1e-6;
 
 // j times the transposed matrix, times k2: the zeros count, for infinities and signs.
 #[tactic(auto, unfolding(crate::specs::Subproblem5::j_transpose_times))]
@@ -85,8 +88,8 @@ fn eqn_real(c1: Cone, c3: Cone) -> Vector5
 fn h_vec(c1: Cone, c3: Cone) -> ArrayVec<f64, 4>
     ensures { result.items ≡ h_vec c1 c3 }
 {
-    let eqn = polynomial::real_quartic(eqn_real(c1, c3));
-    polynomial::real_parts(1e-6, &polynomial::solve_quartic_roots(eqn))
+    let eqn = Quartic::from(eqn_real(c1, c3));
+    polynomial::real_parts(EPSILON, &polynomial::solve_quartic_roots(eqn))
 }
 
 fn sq(c: Circle, h: f64) -> f64
@@ -101,17 +104,9 @@ fn sq(c: Circle, h: f64) -> f64
 fn point(c: Circle, middle: Vector2, pm: Vector2, hk2: Vector3, sign: f64) -> Point
     ensures { result ≡ point c middle pm hk2 sign }
 {
-    let a = c.a;
-    let p_s = c.p_s;
     let s = (middle.x + sign * pm.x) / c.norm_sq;
     let t = (middle.y + sign * pm.y) / c.norm_sq;
-    let u = a.first;
-    let w = a.second;
-    let v = Vector3 {
-        x: u.x * s + w.x * t + p_s.x,
-        y: u.y * s + w.y * t + p_s.y,
-        z: u.z * s + w.z * t + p_s.z,
-    };
+    let v = c.a.first * s + c.a.second * t + c.p_s;
     let distance_sq = linear::norm_squared(v - hk2);
     Point {
         sc: Vector2 { x: s, y: t },
@@ -127,15 +122,13 @@ fn points(c: Circle, h: f64, square: f64, hk2: Vector3) -> Points
 {
     let hd = h - c.delta;
     let root = float::sqrt(square);
-    let a_k2 = c.a_k2;
-    let j_a_k2 = c.j_a_k2;
     let middle = Vector2 {
-        x: a_k2.x * hd,
-        y: a_k2.y * hd,
+        x: c.a_k2.x * hd,
+        y: c.a_k2.y * hd,
     };
     let pm = Vector2 {
-        x: j_a_k2.x * root,
-        y: j_a_k2.y * root,
+        x: c.j_a_k2.x * root,
+        y: c.j_a_k2.y * root,
     };
     Points {
         plus: point(c, middle, pm, hk2, 1.0),
@@ -147,14 +140,10 @@ fn points(c: Circle, h: f64, square: f64, hk2: Vector3) -> Points
 fn angles(k2: Vector3, q1: Point, q3: Point) -> Triple
     ensures { result ≡ angles k2 q1 q3 }
 {
-    let sc1 = q1.sc;
-    let sc3 = q3.sc;
-    let v1 = q1.v;
-    let v3 = q3.v;
     Triple {
-        first: float::atan2(sc1.x, sc1.y),
-        second: subproblem1_theta(v3, v1, k2),
-        third: float::atan2(sc3.x, sc3.y),
+        first: float::atan2(q1.sc.x, q1.sc.y),
+        second: subproblem1_theta(q3.v, q1.v, k2),
+        third: float::atan2(q3.sc.x, q3.sc.y),
     }
 }
 

@@ -16,6 +16,9 @@ pub use sp2::subproblem2;
 pub use sp3::subproblem3;
 pub use sp4::subproblem4;
 
+// What subproblem 1 flags by.
+pub const TOLERANCE: f64 = 1e-6;
+
 // A 3 by 2 matrix.
 #[derive(Clone, Copy)]
 pub struct Columns {
@@ -24,7 +27,8 @@ pub struct Columns {
 }
 
 // An angle, or its sine and cosine, and whether it is a least-squares solution. It is the answer either
-// way, and so no Option: the flag says only how good it is. So too below.
+// way, and so no Option: the flag says only how good it is. So too below. The two are not one type: `theta`
+// is a value and `set` a set, and solvers and definitions read each by its name.
 #[derive(Clone, Copy)]
 pub struct Solved1<T> {
     pub theta: T,

@@ -2,8 +2,8 @@
 ghost use Rattle.std.specs.Prelude.{◌≡◌};
 ghost use Rattle.subproblems.specs.Subproblem1.{subproblem1_theta, subproblem1_is_ls, subproblem1_within, subproblem1};
 
-use crate::Solved1;
 use crate::shared::columns;
+use crate::{Solved1, TOLERANCE};
 use linear::Vector3;
 use norms::norms_differ;
 
@@ -44,5 +44,5 @@ pub fn subproblem1_within(p1: Vector3, p2: Vector3, k: Vector3, tolerance: f64) 
 pub fn subproblem1(p1: Vector3, p2: Vector3, k: Vector3) -> Solved1<f64>
     ensures { result ≡ subproblem1 p1 p2 k }
 {
-    subproblem1_within(p1, p2, k, 1e-6)
+    subproblem1_within(p1, p2, k, TOLERANCE)
 }

@@ -50,11 +50,11 @@ end i last t t₀ h inv =
     let over : length t₀ - i ≡ 0 = omega arith in
     (rw over at inv) ∙ from_is infinity t₀
 
-pub loop-i-init : goal.loop-i-init
-loop-i-init c = search begin
+pub loop-o-init : goal.loop-o-init
+loop-o-init c = search begin
 
-pub loop-i-preserved : goal.loop-i-preserved
-loop-i-preserved c = search again
+pub loop-o-preserved : goal.loop-o-preserved
+loop-o-preserved c = search again
 
 pub returns : goal.returns
 returns c = search end

@@ -20,5 +20,5 @@ unfoldable pub from : ℕ → ℕ → Float → List Ordered → List Ordered
 from zero i last t = t
 from (suc k) i last t = let s = (get_or t i outside).solution in from k (suc i) s.first (set t i (ordered last s))
 
-abbrev pub invariant-loop-i : goal.invariant-loop-i
-invariant-loop-i l = from (length l.initial.t - l.i) l.i l.last l.t ≡ from (length l.initial.t) 0 infinity l.initial.t
+abbrev pub invariant-loop-o : goal.invariant-loop-o
+invariant-loop-o l = from (length l.initial.t - l.o-index) l.o-index l.last l.t ≡ from (length l.initial.t) 0 infinity l.initial.t
