@@ -19,22 +19,14 @@ use subproblems::{Columns, subproblem1_theta};
 const EPSILON: f64 = 1e-6;
 
 // j times the transposed matrix, times k2: the zeros count, for infinities and signs.
-#[tactic(auto, unfolding(crate::specs::Subproblem5::j_transpose_times))]
+#[tactic(auto, using(subproblems::proofs::Commute::times_comm), unfolding(crate::specs::Subproblem5::j_transpose_times))]
 fn j_transpose_times(a: Columns, k2: Vector3) -> Vector2
     ensures { result ≡ j_transpose_times a k2 }
 {
     let u = a.first;
     let w = a.second;
-    let over = Vector3 {
-        x: 0.0 * u.x + 1.0 * w.x,
-        y: 0.0 * u.y + 1.0 * w.y,
-        z: 0.0 * u.z + 1.0 * w.z,
-    };
-    let under = Vector3 {
-        x: -1.0 * u.x + 0.0 * w.x,
-        y: -1.0 * u.y + 0.0 * w.y,
-        z: -1.0 * u.z + 0.0 * w.z,
-    };
+    let over = u * 0.0 + w * 1.0;
+    let under = u * -1.0 + w * 0.0;
     Vector2 {
         x: linear::dot(over, k2),
         y: linear::dot(under, k2),
@@ -160,6 +152,7 @@ fn push(found: &mut ArrayVec<Triple, 16>, k2: Vector3, q1: Point, q3: Point)
 }
 
 // The candidates of the points of two circles, the signs of the first going slower.
+#[tactic(auto, unfolding(crate::specs::Port::of_points))]
 fn of_points(found: &mut ArrayVec<Triple, 16>, k2: Vector3, s1: Points, s3: Points)
     requires { array_vec_len found.old ≤ 12 }
     ensures items { found.new.items ≡ found.old.items ++ of_points k2 s1 s3 }
@@ -172,6 +165,7 @@ fn of_points(found: &mut ArrayVec<Triple, 16>, k2: Vector3, s1: Points, s3: Poin
 }
 
 // The candidates at the height h, after those found before them.
+#[tactic(auto, unfolding(crate::specs::Port::at_root))]
 fn at_root(found: &mut ArrayVec<Triple, 16>, c1: Circle, c3: Circle, k2: Vector3, h: f64)
     requires { array_vec_len found.old ≤ 12 }
     ensures items { found.new.items ≡ found.old.items ++ at_root c1 c3 k2 h }
@@ -206,6 +200,7 @@ fn candidates(
 }
 
 // The angles that turn p1 about k1, p3 about k3, and both ends about k2 to one point.
+#[tactic(auto, using(crate::proofs::Cut::cut))]
 pub fn subproblem5(
     p0: Vector3,
     p1: Vector3,
