@@ -9,35 +9,35 @@ use qr::{QrFactors, Vector4};
 use solutionset::{Pair, SolutionSet4};
 use subproblems::shared::{along, columns};
 
+// A term of an equation: the product of h and of what becomes of p when it turns about k.
+#[derive(Clone, Copy)]
+struct Term {
+    h: Vector3,
+    k: Vector3,
+    p: Vector3,
+}
+
 // A row of the system's matrix.
 #[tactic(auto, unfolding(crate::specs::Subproblem6::row))]
-fn row(hi: Vector3, ki: Vector3, pi: Vector3, hj: Vector3, kj: Vector3, pj: Vector3) -> Vector4
-    ensures { result ≡ row hi ki pi hj kj pj }
+fn row(i: Term, j: Term) -> Vector4
+    ensures { result ≡ row i.h i.k i.p j.h j.k j.p }
 {
-    let ai = columns(ki, pi);
-    let aj = columns(kj, pj);
+    let ai = columns(i.k, i.p);
+    let aj = columns(j.k, j.p);
     Vector4 {
-        x: linear::dot(hi, ai.first),
-        y: linear::dot(hi, ai.second),
-        z: linear::dot(hj, aj.first),
-        w: linear::dot(hj, aj.second),
+        x: linear::dot(i.h, ai.first),
+        y: linear::dot(i.h, ai.second),
+        z: linear::dot(j.h, aj.first),
+        w: linear::dot(j.h, aj.second),
     }
 }
 
 // An entry of its right side.
 #[tactic(auto, unfolding(crate::specs::Subproblem6::entry))]
-fn entry(
-    d: f64,
-    hi: Vector3,
-    ki: Vector3,
-    pi: Vector3,
-    hj: Vector3,
-    kj: Vector3,
-    pj: Vector3,
-) -> f64
-    ensures { result ≡ entry d hi ki pi hj kj pj }
+fn entry(d: f64, i: Term, j: Term) -> f64
+    ensures { result ≡ entry d i.h i.k i.p j.h j.k j.p }
 {
-    d - along(hi, ki, pi) - along(hj, kj, pj)
+    d - along(i.h, i.k, i.p) - along(j.h, j.k, j.p)
 }
 
 // The solutions of the two equations in four unknowns.
@@ -77,9 +77,11 @@ fn plane(a0: Vector4, a1: Vector4, b: Vector2) -> Plane
 fn unit_points(s: Plane) -> SolutionSet4<Pair>
     ensures { result ≡ unit_points s }
 {
-    let m = s.x_min;
-    let n1 = s.x_null_1;
-    let n2 = s.x_null_2;
+    let Plane {
+        x_min: m,
+        x_null_1: n1,
+        x_null_2: n2,
+    } = s;
     let xm1 = Vector2 { x: m.x, y: m.y };
     let xn1 = Matrix2 {
         m00: n1.x,
@@ -102,9 +104,11 @@ fn unit_points(s: Plane) -> SolutionSet4<Pair>
 fn theta(s: Plane, xi: Pair) -> Pair
     ensures { result ≡ theta s xi }
 {
-    let m = s.x_min;
-    let n1 = s.x_null_1;
-    let n2 = s.x_null_2;
+    let Plane {
+        x_min: m,
+        x_null_1: n1,
+        x_null_2: n2,
+    } = s;
     let x0 = m.x + n1.x * xi.first + n2.x * xi.second;
     let x1 = m.y + n1.y * xi.first + n2.y * xi.second;
     let x2 = m.z + n1.z * xi.first + n2.z * xi.second;
@@ -122,7 +126,7 @@ fn thetas(s: Plane, xi: SolutionSet4<Pair>) -> SolutionSet4<Pair>
 }
 
 // The angles that turn p1 and p3 by the first, p2 and p4 by the second, so that both sums of
-// products with h are as given.
+// products with h are as given. The lists are the Rust's, three of four vectors.
 #[tactic(auto, unfolding(crate::specs::Subproblem6::subproblem6))]
 pub fn subproblem6(
     h: [Vector3; 4],
@@ -136,12 +140,30 @@ pub fn subproblem6(
     let [h0, h1, h2, h3] = h;
     let [k0, k1, k2, k3] = k;
     let [p0, p1, p2, p3] = p;
-    let a0 = row(h0, k0, p0, h1, k1, p1);
-    let a1 = row(h2, k2, p2, h3, k3, p3);
-    let b = Vector2 {
-        x: entry(d1, h0, k0, p0, h1, k1, p1),
-        y: entry(d2, h2, k2, p2, h3, k3, p3),
+    let t0 = Term {
+        h: h0,
+        k: k0,
+        p: p0,
     };
-    let s = plane(a0, a1, b);
+    let t1 = Term {
+        h: h1,
+        k: k1,
+        p: p1,
+    };
+    let t2 = Term {
+        h: h2,
+        k: k2,
+        p: p2,
+    };
+    let t3 = Term {
+        h: h3,
+        k: k3,
+        p: p3,
+    };
+    let b = Vector2 {
+        x: entry(d1, t0, t1),
+        y: entry(d2, t2, t3),
+    };
+    let s = plane(row(t0, t1), row(t2, t3), b);
     thetas(s, unit_points(s))
 }
