@@ -2,13 +2,15 @@
 #![tactic(auto)]
 
 ghost use Rattle.std.specs.Prelude.{◌≡◌};
-ghost use Rattle.subproblems_sc.specs.SinCosForms.{unit, subproblem1_sc, subproblem3_sc, subproblem4_sc};
+ghost use Rattle.float.specs.Num.{◌⊕◌, ◌⊖◌};
+ghost use Rattle.solutionset.specs.declared.set2.SolutionSet2.TheVariants.{Two};
+ghost use Rattle.subproblems_sc.specs.SinCosForms.{sc, unit, subproblem1_sc, subproblem3_sc, subproblem4_sc};
 
 use float::SinCos;
 use linear::Vector3;
 use solutionset::SolutionSet2;
 use subproblems::shared::columns;
-use subproblems::{Solved1, Solved2, subproblem1_is_ls};
+use subproblems::{Solved1, Solved2, TOLERANCE, subproblem1_is_ls};
 
 // The direction of a point, and that of (0, 1) for one that has none.
 #[tactic(auto, unfolding(crate::specs::SinCosForms::unit))]
@@ -35,8 +37,24 @@ pub fn subproblem1_sc(p1: Vector3, p2: Vector3, k: Vector3) -> Solved1<SinCos>
     let x1 = -linear::dot(linear::cross(k, kxp), p2);
     Solved1 {
         theta: unit(x0, x1),
-        is_ls: subproblem1_is_ls(p1, p2, k, 1e-6),
+        is_ls: subproblem1_is_ls(p1, p2, k, TOLERANCE),
     }
+}
+
+// The points s and c to either side of the nearest one.
+fn either_side(x0: f64, x1: f64, s: f64, c: f64) -> SolutionSet2<SinCos>
+    ensures { result ≡ Two (sc (x0 ⊕ s) (x1 ⊕ c)) (sc (x0 ⊖ s) (x1 ⊖ c)) }
+{
+    SolutionSet2::Two(
+        SinCos {
+            sin: x0 + s,
+            cos: x1 + c,
+        },
+        SinCos {
+            sin: x0 - s,
+            cos: x1 - c,
+        },
+    )
 }
 
 #[tactic(auto, unfolding(crate::specs::SinCosForms::subproblem3_sc))]
@@ -65,19 +83,8 @@ pub fn subproblem3_sc(p1: Vector3, p2: Vector3, k: Vector3, d: f64) -> Solved2<S
     }
     let xi = float::sqrt(1.0 - b * b / norm_a_sq);
     let norm_a = float::sqrt(norm_a_sq);
-    let s = xi * (a1 / norm_a);
-    let c = xi * (-a0 / norm_a);
     Solved2 {
-        set: SolutionSet2::Two(
-            SinCos {
-                sin: x0 + s,
-                cos: x1 + c,
-            },
-            SinCos {
-                sin: x0 - s,
-                cos: x1 - c,
-            },
-        ),
+        set: either_side(x0, x1, xi * (a1 / norm_a), xi * (-a0 / norm_a)),
         is_ls: false,
     }
 }
