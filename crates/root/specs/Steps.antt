@@ -1,8 +1,8 @@
--- What the code's functions promise each other on the way to a root: their guesses, spans and digits. Nothing of this stands beneath `sqrt` or `cbrt`.
+-- What the code's functions promise each other on the way to a root: their guesses, words and digits. Nothing of this stands beneath `sqrt` or `cbrt`.
 use Rattle.std.specs.Prelude.{◌≡◌, ℕ, zero, suc, ◌+◌, ◌-◌, ◌*◌, ◌/◌, ◌%◌, ◌^◌, ◌≤◌, ◌<◌}
 use Rattle.root.specs.Root.{WholeRoot, square, cube}
 use Rattle.root.specs.declared.Digits.{Digits}
-use Rattle.root.specs.declared.Span.{Span}
+use Rattle.root.specs.declared.CubeWords.{CubeWords}
 
 -- what `refine` asks: a is the whole root of n, b is a base that a step can have, and l is below b * b
 pub record Refinable (n a l b : ℕ) : Type 0 where
@@ -13,12 +13,11 @@ pub record Refinable (n a l b : ℕ) : Type 0 where
   pub narrow : b ≤ 2 ^ 27
   pub digits : l < b * b
 
--- the whole cube root of n is among the numbers of a span, of which there are some, none with more than 54 digits
-pub record CubeSpan (n : ℕ) (s : Span) : Type 0 where
-  pub low : cube s.from ≤ n
-  pub high : n < cube (s.from + s.width)
-  pub some : 0 < s.width
-  pub few : s.from + s.width ≤ 2 ^ 54
+-- the square and the cube of r: the square above its last 54 digits, and the cube above its last 54 digits and those
+pub record HasCube (r : ℕ) (c : CubeWords) : Type 0 where
+  pub above : c.square ≡ r * r / 2 ^ 54
+  pub whole : c.high * 2 ^ 54 + c.low ≡ cube r
+  pub last : c.low < 2 ^ 54
 
 -- the cube root of n is at least e - 1 and below e + 1
 pub record Beside (e n : ℕ) : Type 0 where
