@@ -22,6 +22,7 @@ fn rem_shifted(m: u64, k: u64) -> u64
 }
 
 // The remainder of the value of a pattern, in units of 2^-50, for a value that is 4 or more.
+#[tactic(auto, using(crate::proofs::Fraction::units_rem))]
 fn rem_bits(b: u64) -> u64
     requires { (1025 * 2 ^ 52 ≤ b) × (b < 2047 * 2 ^ 52) }
     ensures { (result * 2 ^ 1024 ≡ units_of b % (tau_digits * 2 ^ 1024)) × (result < 2 ^ 53) }
@@ -32,6 +33,7 @@ fn rem_bits(b: u64) -> u64
 }
 
 // r units of 2^-50, exactly.
+#[tactic(auto, using(crate::proofs::Fraction::from_units_is))]
 fn from_units(r: u64) -> f64
     requires { r < 2 ^ 53 }
     ensures { result ≡ round binary64 false r (2 ^ 50) }
