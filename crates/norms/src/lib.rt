@@ -25,39 +25,31 @@ const TWO_20: f64 = 1048576.0;
 const TWO_60: f64 = 1152921504606846976.0;
 
 // Whether it is plain that the roots come out at most 2^-20 apart.
+#[tactic(auto, using(crate::proofs::RootGap::near_small, crate::proofs::RootGap::near_large))]
 fn near(a: f64, b: f64) -> bool
     ensures { result ≡ true → Near a b }
 {
-    if a > 0.0 {
-        if b > 0.0 {
-            if a < 1.0 {
-                return float::abs(a - b) < TWO_M42;
-            }
-            if a < TWO_60 {
-                return float::abs(a - b) < TWO_M21;
-            }
-        }
+    if !(a > 0.0 && b > 0.0) {
+        return false;
     }
-    false
+    if a < 1.0 {
+        return float::abs(a - b) < TWO_M42;
+    }
+    a < TWO_60 && float::abs(a - b) < TWO_M21
 }
 
 // Whether it is plain that they come out at least 3 × 2^-21 apart.
+#[tactic(auto, using(crate::proofs::RootGap::far_small, crate::proofs::RootGap::far_large))]
 fn far(a: f64, b: f64) -> bool
     ensures { result ≡ true → Far a b }
 {
-    if a > 0.0 {
-        if b > 0.0 {
-            if b < TWO_60 {
-                if a < 1.0 {
-                    return float::abs(a - b) > TWO_M17;
-                }
-                if a < TWO_20 {
-                    return float::abs(a - b) > TWO_M7;
-                }
-            }
-        }
+    if !(a > 0.0 && b > 0.0 && b < TWO_60) {
+        return false;
     }
-    false
+    if a < 1.0 {
+        return float::abs(a - b) > TWO_M17;
+    }
+    a < TWO_20 && float::abs(a - b) > TWO_M7
 }
 
 fn roots_differ(a: f64, b: f64, tolerance: f64) -> bool
@@ -67,19 +59,18 @@ fn roots_differ(a: f64, b: f64, tolerance: f64) -> bool
 }
 
 // Whether the norms whose squares are a and b differ by more than the tolerance.
+#[tactic(auto, using(crate::proofs::RootGap::near_not_above))]
 pub fn norms_differ(a: f64, b: f64, tolerance: f64) -> bool
     ensures { result ≡ lt tolerance (abs (sqrt a ⊖ sqrt b)) }
 {
-    if near(a, b) {
-        if tolerance >= TWO_M20 {
-            return false;
-        }
-        return roots_differ(a, b, tolerance);
+    if near(a, b) && tolerance >= TWO_M20 {
+        return false;
     }
     roots_differ(a, b, tolerance)
 }
 
 // Whether they differ by less than 1e-6.
+#[tactic(auto, using(crate::proofs::RootGap::near_below, crate::proofs::RootGap::far_not_below))]
 pub fn norms_agree(a: f64, b: f64) -> bool
     ensures { result ≡ lt (abs (sqrt a ⊖ sqrt b)) tolerance }
 {
