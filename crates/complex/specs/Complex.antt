@@ -42,10 +42,14 @@ unfoldable pub ◌/ᶜ◌ : Complex → Complex → Complex
 unfolding ◌*ᶜ◌ overᶜ conjugate
 z /ᶜ w = overᶜ (z *ᶜ conjugate w) (w.re ⊗ w.re ⊕ w.im ⊗ w.im)
 
+-- a real number
+abbrev pub real : Float → Complex
+real x = record { re = x; im = nought }
+
 -- "a real divided by a complex is first given imaginary part 0"
 unfoldable pub real_overᶜ : Float → Complex → Complex
 unfolding ◌/ᶜ◌
-real_overᶜ s z = record { re = s; im = nought } /ᶜ z
+real_overᶜ s z = real s /ᶜ z
 
 -- "Modulus: larger size × sqrt(1 + (smaller / larger)^2), 0 for zero, NaN if a part is."
 unfoldable pub modulus : Float → Float → Float

@@ -3,7 +3,7 @@
 #![tactic(auto)]
 
 ghost use Rattle.std.specs.Prelude.{◌≡◌};
-ghost use Rattle.complex.specs.Complex.{◌+ᶜ◌, ◌-ᶜ◌, negᶜ, ◌*ᶜ◌, ◌/ᶜ◌, scaleᶜ, overᶜ, real_overᶜ, modulus, absᶜ, polar, sqrtᶜ, cbrtᶜ};
+ghost use Rattle.complex.specs.Complex.{◌+ᶜ◌, ◌-ᶜ◌, negᶜ, ◌*ᶜ◌, ◌/ᶜ◌, scaleᶜ, overᶜ, real, real_overᶜ, modulus, absᶜ, polar, sqrtᶜ, cbrtᶜ};
 
 use std::ops::{Add, Div, Mul, Neg, Sub};
 
@@ -11,6 +11,15 @@ use std::ops::{Add, Div, Mul, Neg, Sub};
 pub struct Complex {
     pub re: f64,
     pub im: f64,
+}
+
+// A real number, with the imaginary part 0.0.
+impl From<f64> for Complex {
+    ghost from_gives = { λ x z. z ≡ real x };
+
+    fn from(x: f64) -> Complex {
+        Complex { re: x, im: 0.0 }
+    }
 }
 
 impl Add for Complex {
@@ -113,11 +122,12 @@ impl Div<Complex> for f64 {
     ghost div_gives = { λ s z quotient. quotient ≡ real_overᶜ s z };
 
     fn div(self, z: Complex) -> Complex {
-        Complex { re: self, im: 0.0 } / z
+        Complex::from(self) / z
     }
 }
 
 // The modulus, of the sizes of the two parts: no square overflows or is lost beside the larger.
+#[tactic(auto, unfolding(crate::specs::Complex::modulus))]
 fn modulus(larger: f64, smaller: f64) -> f64
     ensures { result ≡ modulus larger smaller }
 {
@@ -131,16 +141,14 @@ fn modulus(larger: f64, smaller: f64) -> f64
 pub fn abs(z: Complex) -> f64
     ensures { result ≡ absᶜ z }
 {
-    let x = z.re;
-    let y = z.im;
-    if x != x {
-        return x;
+    if z.re.is_nan() {
+        return z.re;
     }
-    if y != y {
-        return y;
+    if z.im.is_nan() {
+        return z.im;
     }
-    let a = float::abs(x);
-    let b = float::abs(y);
+    let a = float::abs(z.re);
+    let b = float::abs(z.im);
     if a < b {
         return modulus(b, a);
     }
