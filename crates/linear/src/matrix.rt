@@ -28,7 +28,8 @@ pub fn outer(a: Vector3, b: Vector3) -> Matrix3
     ]
 }
 
-// A row times a matrix.
+// A row times a matrix. The sums here and below are written out, with no loop: document 01 fixes their
+// order, from the first product to the last, and a sum that began with 0.0 would lose a -0.0.
 fn row_product(a: [f64; 3], b: Matrix3) -> [f64; 3]
     ensures { result ≡ row_product a b }
 {
@@ -39,6 +40,7 @@ fn row_product(a: [f64; 3], b: Matrix3) -> [f64; 3]
     ]
 }
 
+#[tactic(auto, unfolding(crate::specs::Matrix::product))]
 pub fn product(a: Matrix3, b: Matrix3) -> Matrix3
     ensures { result ≡ product a b }
 {
@@ -56,6 +58,7 @@ fn row_dot(a: [f64; 3], v: Vector3) -> f64
     a[0] * v.x + a[1] * v.y + a[2] * v.z
 }
 
+#[tactic(auto, unfolding(crate::specs::Matrix::apply))]
 pub fn apply(a: Matrix3, v: Vector3) -> Vector3
     ensures { result ≡ apply a v }
 {
@@ -67,6 +70,7 @@ pub fn apply(a: Matrix3, v: Vector3) -> Vector3
 }
 
 // The row v times a matrix.
+#[tactic(auto, unfolding(crate::specs::Matrix::row_apply))]
 pub fn row_apply(v: Vector3, a: Matrix3) -> Vector3
     ensures { result ≡ row_apply v a }
 {
@@ -78,6 +82,7 @@ pub fn row_apply(v: Vector3, a: Matrix3) -> Vector3
     }
 }
 
+#[tactic(auto, unfolding(crate::specs::Matrix::transpose))]
 pub fn transpose(a: Matrix3) -> Matrix3
     ensures { result ≡ transpose a }
 {
@@ -122,6 +127,7 @@ fn rodrigues(k: Vector3, s: f64, c: f64) -> Matrix3
 }
 
 // The rotation by theta about an axis that is already normalised.
+#[tactic(auto, unfolding(crate::specs::Matrix::rot_unit, float::specs::Sine::sin_cos))]
 pub fn rot_unit(k: Vector3, theta: f64) -> Matrix3
     ensures { result ≡ rot_unit k theta }
 {
@@ -130,6 +136,7 @@ pub fn rot_unit(k: Vector3, theta: f64) -> Matrix3
 }
 
 // The rotation by theta about k.
+#[tactic(auto, unfolding(crate::specs::Matrix::rot))]
 pub fn rot(k: Vector3, theta: f64) -> Matrix3
     ensures { result ≡ rot k theta }
 {

@@ -34,12 +34,14 @@ pub fn norm_squared(a: Vector3) -> f64
     dot(a, a)
 }
 
+#[tactic(auto, unfolding(crate::specs::Vector::norm))]
 pub fn norm(a: Vector3) -> f64
     ensures { result ≡ norm a }
 {
     root::sqrt(dot(a, a))
 }
 
+#[tactic(auto, unfolding(crate::specs::Vector::normalize))]
 pub fn normalize(a: Vector3) -> Vector3
     ensures { result ≡ normalize a }
 {
@@ -116,6 +118,8 @@ impl Div<f64> for Vector3 {
     }
 }
 
+// Written out, with no loop: document 01 adds the columns from the first to the last, and a sum that
+// began with zeros would lose a -0.0.
 pub fn column_sum(a: Vector3, b: Vector3, c: Vector3, d: Vector3) -> Vector3
     ensures { result ≡ column_sum a b c d }
 {
