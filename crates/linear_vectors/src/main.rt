@@ -33,93 +33,54 @@ const RESULTS: usize = 19;
 fn vector(bytes: &[u8; 224], i: usize) -> Vector3
     requires { i + 3 ≤ 28 }
 {
-    Vector3 {
-        x: cases::argument(bytes, i),
-        y: cases::argument(bytes, i + 1),
-        z: cases::argument(bytes, i + 2),
-    }
-}
-
-fn row(bytes: &[u8; 224], i: usize) -> [f64; 3]
-    requires { i + 3 ≤ 28 }
-{
-    [
-        cases::argument(bytes, i),
-        cases::argument(bytes, i + 1),
-        cases::argument(bytes, i + 2),
-    ]
+    let [x, y, z]: [f64; 3] = cases::array_of(bytes, i);
+    Vector3 { x, y, z }
 }
 
 fn matrix(bytes: &[u8; 224], i: usize) -> Matrix3
     requires { i + 9 ≤ 28 }
 {
-    [row(bytes, i), row(bytes, i + 3), row(bytes, i + 6)]
+    [
+        cases::array_of(bytes, i),
+        cases::array_of(bytes, i + 3),
+        cases::array_of(bytes, i + 6),
+    ]
 }
 
-fn scalar_result(bytes: &[u8; 224], id: u64) -> f64 {
-    let a = vector(bytes, 1);
-    match id {
-        0 => linear::dot(a, vector(bytes, 4)),
-        2 => linear::norm(a),
-        _ => linear::norm_squared(a),
-    }
-}
-
-fn vector_result(bytes: &[u8; 224], id: u64) -> Vector3 {
-    let a = vector(bytes, 1);
-    let b = vector(bytes, 4);
-    match id {
-        1 => linear::cross(a, b),
-        4 => linear::normalize(a),
-        5 => a + b,
-        6 => a - b,
-        7 => -a,
-        8 => a * cases::argument(bytes, 4),
-        10 => linear::apply(matrix(bytes, 1), vector(bytes, 10)),
-        _ => linear::column_sum(a, b, vector(bytes, 7), vector(bytes, 10)),
-    }
-}
-
-fn matrix_result(bytes: &[u8; 224], id: u64) -> Matrix3 {
-    match id {
-        9 => linear::product(matrix(bytes, 1), matrix(bytes, 10)),
-        11 => linear::transpose(matrix(bytes, 1)),
-        12 => linear::hat(vector(bytes, 1)),
-        _ => linear::rot(vector(bytes, 1), cases::argument(bytes, 4)),
-    }
+fn gives(bytes: &[u8; 224], x: f64) -> bool {
+    cases::gives(bytes, RESULTS, x)
 }
 
 fn gives_vector(bytes: &[u8; 224], v: Vector3) -> bool {
-    let is_x = cases::gives(bytes, RESULTS, v.x);
-    let is_y = cases::gives(bytes, RESULTS + 1, v.y);
-    let is_z = cases::gives(bytes, RESULTS + 2, v.z);
-    is_x && is_y && is_z
-}
-
-fn gives_row(bytes: &[u8; 224], i: usize, r: [f64; 3]) -> bool
-    requires { i + 3 ≤ 28 }
-{
-    let is_x = cases::gives(bytes, i, r[0]);
-    let is_y = cases::gives(bytes, i + 1, r[1]);
-    let is_z = cases::gives(bytes, i + 2, r[2]);
-    is_x && is_y && is_z
+    cases::agree(bytes, RESULTS, &[v.x, v.y, v.z].map(cases::pattern))
 }
 
 fn gives_matrix(bytes: &[u8; 224], m: Matrix3) -> bool {
-    let first = m[0];
-    let second = m[1];
-    let third = m[2];
-    let is_first = gives_row(bytes, RESULTS, first);
-    let is_second = gives_row(bytes, RESULTS + 3, second);
-    let is_third = gives_row(bytes, RESULTS + 6, third);
-    is_first && is_second && is_third
+    let words = m.map(|row| row.map(cases::pattern));
+    cases::agree(bytes, RESULTS, words.as_flattened())
 }
 
 fn agrees(bytes: &[u8; 224], id: u64) -> bool {
+    let a = vector(bytes, 1);
+    let b = vector(bytes, 4);
+    let d = vector(bytes, 10);
+    let m = matrix(bytes, 1);
     match id {
-        0 | 2 | 3 => cases::gives(bytes, RESULTS, scalar_result(bytes, id)),
-        9 | 11 | 12 | 13 => gives_matrix(bytes, matrix_result(bytes, id)),
-        _ => gives_vector(bytes, vector_result(bytes, id)),
+        0 => gives(bytes, linear::dot(a, b)),
+        1 => gives_vector(bytes, linear::cross(a, b)),
+        2 => gives(bytes, linear::norm(a)),
+        3 => gives(bytes, linear::norm_squared(a)),
+        4 => gives_vector(bytes, linear::normalize(a)),
+        5 => gives_vector(bytes, a + b),
+        6 => gives_vector(bytes, a - b),
+        7 => gives_vector(bytes, -a),
+        8 => gives_vector(bytes, a * b.x),
+        9 => gives_matrix(bytes, linear::product(m, matrix(bytes, 10))),
+        10 => gives_vector(bytes, linear::apply(m, d)),
+        11 => gives_matrix(bytes, linear::transpose(m)),
+        12 => gives_matrix(bytes, linear::hat(a)),
+        13 => gives_matrix(bytes, linear::rot(a, b.x)),
+        _ => gives_vector(bytes, linear::column_sum(a, b, vector(bytes, 7), d)),
     }
 }
 
