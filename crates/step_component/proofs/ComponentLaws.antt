@@ -13,7 +13,7 @@ use Rattle.search_steps.specs.ScanSteps.{Scan, scan_way}
 use Rattle.search_steps.specs.EdgeSteps as EdgeSteps
 use Rattle.search_steps.specs.EdgeSteps.{edge_way, halve_way}
 use Rattle.search_steps.specs.ComponentSteps.{Component, in_run, in_edge, gap_at, if_alike_way, edges_way, runs_way, component_way, component_angle, component_next}
-use Rattle.step_refine.specs.declared.Point as DeclaredPoint
+use Rattle.step_refine.specs.Point as DeclaredPoint
 use Rattle.step_pairs.specs.declared.Found.{Found}
 use Rattle.step_pairs.specs.Landed.{putting, Landed, landing, landed}
 use Rattle.step_pairs.proofs.LandedLaws.{chain_of_nothing, chain_same}
@@ -21,20 +21,9 @@ use Rattle.step_component.specs.State.{component_of, Handy, Ran}
 use Rattle.step_component.specs.declared.component.Component as Declared
 
 -- ---- the gap beside a sample
-module _ (P : ℕ → Point) (k i n : ℕ) {p q : Point} {r : Bool} (ep : p ≡ P k) (eq : q ≡ P (k + 1)) (e : r ≡ is_finite p.y) where
-  gap_is : (b : Bool) → r ≡ b → if_first_inside b p q ≡ gap_at i P n k
-  unfolding gap_at
-  gap_is b d =
-      ap₂ (if_first_inside b) ep (eq ∙ ap P (add-one k))
-      ∙ ap (λ (z : Bool). if_first_inside z (P k) (P (suc k))) (sym d ∙ e ∙ ap (λ (z : Point). is_finite z.y) ep)
-
-  pub gap_left : r ≡ true → ◌≡◌ {A = Gap} (record { inside = p; outside = q.x }) (gap_at i P n k)
-  unfolding if_first_inside
-  gap_left d = gap_is true d
-
-  pub gap_right : r ≡ false → ◌≡◌ {A = Gap} (record { inside = q; outside = p.x }) (gap_at i P n k)
-  unfolding if_first_inside
-  gap_right d = gap_is false d
+pub gap_there : (P : ℕ → Point) (k i n : ℕ) {p q : Point} → p ≡ P k → q ≡ P (k + 1) → if_first_inside (is_finite p.y) p q ≡ gap_at i P n k
+unfolding gap_at
+gap_there P k i n ep eq = ap₂ (λ (a b : Point). if_first_inside (is_finite a.y) a b) ep (eq ∙ ap P (add-one k))
 
 -- ---- the walk over a run: m of the c samples from l on
 module _ (i : ℕ) (P : ℕ → Point) (n c l m : ℕ) where

@@ -4,7 +4,7 @@ use Rattle.float.specs.Number.{is_finite}
 use Rattle.search_definition.specs.Dip.{Point}
 use Rattle.search_steps.specs.ComponentSteps as Steps
 use Rattle.search_steps.specs.Kept.{EdgeKept}
-use Rattle.step_refine.specs.declared.Point as DeclaredPoint
+use Rattle.step_refine.specs.Point as DeclaredPoint
 use Rattle.step_scan.specs.State.{scan_of, last_of}
 use Rattle.step_edge.specs.State.{edge_of}
 use Rattle.step_component.specs.declared.component.Component as DeclaredComponent

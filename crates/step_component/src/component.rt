@@ -1,7 +1,7 @@
 // A component i over its samples at the grid's points 0 to n; `row` is an edge's row.
 ghost use Rattle.std.specs.Prelude.{◌≡◌, List, ℕ, suc, ◌-◌};
 ghost use Rattle.search_steps.specs.ComponentSteps as Steps;
-ghost use Rattle.step_refine.specs.declared.Point as DeclaredPoint;
+ghost use Rattle.step_refine.specs.Point as DeclaredPoint;
 ghost use Rattle.step_pairs.specs.Landed.{landed, came};
 ghost use Rattle.step_pairs.specs.declared.Found as DeclaredFound;
 ghost use Rattle.step_scan.specs.State.{points};
@@ -45,6 +45,7 @@ pub fn runs_way<const N: usize>(
 ) -> Option<Component>
     ensures { (r : List DeclaredPoint.Point) → came (component_of n r) found.new.items result ≡ landed N found.old.items (Steps.runs_way i (points grid.entry) n (suc n - from) from 0) }
 {
+    // Not a `for`: a step is as long as the run that was scanned, so it counts nothing by ones.
     let mut s = from;
     while s <= n as usize {
         let m = run_length(grid, n, s);
@@ -82,7 +83,8 @@ pub fn component_angle(grid: Row, z: Component, row: &ArrayVec<Point, 9>) -> f64
     }
 }
 
-// What a component comes to with the value y at the angle that it asks.
+// What a component comes to with the value y at the angle that it asks. What is kept of its numbers is no ghost
+// field of Component, since it speaks of the edge's row too, which lies in a list that the caller lends.
 pub fn component_next<const N: usize>(
     i: u8,
     grid: Row,

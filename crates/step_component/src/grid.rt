@@ -4,7 +4,7 @@ ghost use Rattle.std.specs.Bool.{beq};
 ghost use Rattle.float.specs.Number.{is_finite};
 ghost use Rattle.search_steps.specs.ComponentSteps as Steps;
 ghost use Rattle.step_scan.specs.State.{points};
-ghost use Rattle.step_edge.specs.State.{gap_of};
+ghost use Rattle.step_edge.specs.State.{gap};
 ghost use Rattle.step_component.specs.State.{Ran};
 
 use float::is_finite;
@@ -13,20 +13,9 @@ use step_scan::row::Row;
 
 // Between the samples k and k + 1, of which one is finite.
 pub fn gap_at(grid: Row, k: usize) -> Gap
-    ensures { (i n : ℕ) → gap_of result ≡ Steps.gap_at i (points grid.entry) n k }
+    ensures { (i n : ℕ) → gap result ≡ Steps.gap_at i (points grid.entry) n k }
 {
-    let p = grid.at(k);
-    let q = grid.behind(k, 1);
-    if is_finite(p.y) {
-        return Gap {
-            inside: p,
-            outside: q.x,
-        };
-    }
-    Gap {
-        inside: q,
-        outside: p.x,
-    }
+    Gap::beside(grid.at(k), grid.behind(k, 1))
 }
 
 // Whether the samples k and k + 1 are both finite, or neither.

@@ -105,8 +105,8 @@ pub fn dip_angle(p: Point, q: Point, d: Dip) -> f64
         Dip::Opening => left_of(p.x, q.x),
         Dip::OpenedLeft(_) => right_of(p.x, q.x),
         Dip::Sinking(_, v) => probe(v),
-        Dip::Before(_, r) => step_refine::guess(r.at),
-        Dip::After(r) => step_refine::guess(r.at),
+        Dip::Before(_, r) => r.at.next(),
+        Dip::After(r) => r.at.next(),
     }
 }
 

@@ -1,6 +1,6 @@
 -- The ways out of the steps of an edge, by what the code's tests and calls gave. Assumes nothing.
 use Rattle.std.proofs.Common.{◌≡◌, ◌≢◌, refl, sym, ◌∙◌, ap, ap₂, subst, Bool, true, false, List, [], ◌∷◌, ◌++◌, map, ℕ, suc, ◌+◌, ◌-◌, ◌<◌, ◌≤◌, add-one, arith, length, take, drop, reverse, Float}
-use Rattle.std.proofs.lemmas.List.{append-nil, length-map, map-append, reverse-append}
+use Rattle.std.proofs.lemmas.List.{length-map, map-append, reverse-append}
 use Rattle.std.specs.Prelude.{Option, Some}
 use Rattle.std.specs.Option.{option_map}
 use Rattle.std.specs.Float.Ieee.{lt}
@@ -12,7 +12,7 @@ use Rattle.search_definition.specs.Search.{Gap, mid, if_inside, keep, reversed_i
 use Rattle.search_steps.specs.ScanSteps.{Scan, last_pair, scan_angle, scan_next, scan_way}
 use Rattle.search_steps.specs.EdgeSteps.{Edge, halving, taking, in_row, sub_angle, row_way, take_way, halve_way, edge_angle, edge_next, edge_way}
 use Rattle.step_refine.specs.State.{point_of}
-use Rattle.step_refine.specs.declared.Point as DeclaredPoint
+use Rattle.step_refine.specs.Point as DeclaredPoint
 use Rattle.step_pairs.specs.declared.Found.{Found}
 use Rattle.step_pairs.specs.Landed.{putting, Landed, landing, landed, came}
 use Rattle.step_pairs.proofs.LandedLaws.{part_ends}
@@ -55,18 +55,6 @@ module _ (e p : DeclaredPoint.Point) (r : List DeclaredPoint.Point) where
       ap (map point_of) i ∙ mapped_reverse point_of m ∙ ap reverse d ∙ ap (λ (b : Bool). reversed_if b closed) (sym t)
 
 -- ---- bisection
-module _ (g : Gap) (x y : Float) {r : Bool} (q : r ≡ is_finite y) where
-  pub halved_in : r ≡ true → ◌≡◌ {A = Gap} (record { inside = record { x = x; y = y }; outside = g.outside }) (if_inside (is_finite y) x y g)
-  unfolding if_inside
-  halved_in t = ap (λ (b : Bool). if_inside b x y g) (sym t ∙ q)
-
-  pub halved_out : r ≡ false → ◌≡◌ {A = Gap} (record { inside = g.inside; outside = x }) (if_inside (is_finite y) x y g)
-  unfolding if_inside
-  halved_out t = ap (λ (b : Bool). if_inside b x y g) (sym t ∙ q)
-
-abbrev kept_of : List Point → Float → Bool → Float → List Point
-kept_of l y b x = l ++ keep b (record { x = x; y = y }) []
-
 module _ (room : ℕ) (o : Place → Origin) (h : List Found) where
   module _ (p : Point) (g : Gap) (k : ℕ) where
     pub halves_none : {l : List Point} → k ≡ 0 → l ≡ [] → landing h (Some (taking g.inside 6 1 l)) ≡ landed room h (halve_way o p k g)
@@ -97,22 +85,14 @@ module _ (room : ℕ) (o : Place → Origin) (h : List Found) where
         sym (ap (λ (z : ℕ). landed room h (take_way o p e z j l)) d)
 
     -- the sample is kept or not
-    module _ (y : Float) {r : Bool} (q : r ≡ is_finite y) (b : j ≤ 7) (m : List Point) {k : Landed Edge} (a : k ≡ landed room h (take_way o p e (8 - (j + 1)) (j + 1) m)) where
-      goes : (b : Bool) → r ≡ b → m ≡ kept_of l y b (sub_angle o p e j) → k ≡ landed room h (edge_next o p (taking e (7 - j) j l) y)
-      unfolding edge_next
-      goes b t d =
+    module _ (y : Float) (b : j ≤ 7) (m : List Point) {k : Landed Edge} (a : k ≡ landed room h (take_way o p e (8 - (j + 1)) (j + 1) m)) where
+      pub sample_goes : {x : Float} → x ≡ e.x ⊕ (p.x ⊖ e.x) ⊗ share j → m ≡ l ++ keep (is_finite y) (record { x = x; y = y }) [] → k ≡ landed room h (edge_next o p (taking e (7 - j) j l) y)
+      unfolding edge_next sub_angle
+      sample_goes ex d =
           let c : 8 - (j + 1) ≡ 7 - j = omega arith in
           a
-          ∙ ap (λ (n : List Point). landed room h (take_way o p e (8 - (j + 1)) (j + 1) n)) (d ∙ ap (λ (z : Bool). kept_of l y z (sub_angle o p e j)) (sym t ∙ q))
-          ∙ ap₂ (λ (i n : ℕ). landed room h (take_way o p e i n (kept_of l y (is_finite y) (sub_angle o p e j)))) c (add-one j)
-
-      pub sample_kept : {x : Float} → r ≡ true → x ≡ e.x ⊕ (p.x ⊖ e.x) ⊗ share j → m ≡ l ++ (record { x = x; y = y } ∷ []) → k ≡ landed room h (edge_next o p (taking e (7 - j) j l) y)
-      unfolding keep sub_angle
-      sample_kept t ex d = goes true t (d ∙ ap (kept_of l y true) ex)
-
-      pub sample_dropped : r ≡ false → m ≡ l → k ≡ landed room h (edge_next o p (taking e (7 - j) j l) y)
-      unfolding keep
-      sample_dropped t d = goes false t (d ∙ sym (append-nil l))
+          ∙ ap (λ (n : List Point). landed room h (take_way o p e (8 - (j + 1)) (j + 1) n)) (d ∙ ap (λ (z : Float). l ++ keep (is_finite y) (record { x = z; y = y }) []) ex)
+          ∙ ap₂ (λ (i n : ℕ). landed room h (take_way o p e i n (l ++ keep (is_finite y) (record { x = sub_angle o p e j; y = y }) []))) c (add-one j)
 
 -- ---- a step, by the state that it starts from
 module _ (o : Place → Origin) (p : Point) (r : List DeclaredPoint.Point) (z w : Declared.Edge) (e : z ≡ w) where

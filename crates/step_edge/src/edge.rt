@@ -1,33 +1,23 @@
 // An edge of a branch between two grid samples, beside the one inside the branch, p. Its pairs are of
 // component i.
 ghost use Rattle.std.specs.Prelude.{◌≡◌, List, ℕ, ◌≤◌, ◌<◌, ◌-◌, length, map, Float, Some};
-ghost use Rattle.float.specs.Num.{◌⊕◌, ◌⊖◌, ◌⊗◌};
-ghost use Rattle.float.specs.Number.{is_finite};
 ghost use Rattle.search_definition.specs.Found.{Place, Origin, component};
 ghost use Rattle.search_definition.specs.Dip as DipDefinition;
-ghost use Rattle.search_definition.specs.Search as Search;
 ghost use Rattle.search_steps.specs.Kept.{EdgeKept};
 ghost use Rattle.search_steps.specs.EdgeSteps as Steps;
 ghost use Rattle.step_refine.specs.State.{point_of};
 ghost use Rattle.step_pairs.specs.Landed.{landing, landed, came};
 ghost use Rattle.step_pairs.specs.declared.Found as DeclaredFound;
-ghost use Rattle.step_edge.specs.State.{gap_of, edge_of};
+ghost use Rattle.step_edge.specs.State.{gap, edge_of};
 
 use crate::row::{close_row, whole};
 use arrayvec::ArrayVec;
-use float::is_finite;
-use search_edge::edge::share;
+pub use search_edge::edge::Gap;
+use search_edge::edge::{keep_finite, sub_angle};
 use step_pairs::Found;
 use step_refine::Point;
 use step_scan::row::Row;
 use step_scan::scan::{Scan, scan_angle, scan_next, scan_way};
-
-// A point of the branch, and an angle where the branch is not.
-#[derive(Clone, Copy)]
-pub struct Gap {
-    pub inside: Point,
-    pub outside: f64,
-}
 
 // Halves the gap, so many times more; takes a sample of this number from the branch's end on; or scans the row.
 #[derive(Clone, Copy)]
@@ -35,33 +25,6 @@ pub enum Edge {
     Halving(usize, Gap),
     Taking(Point, u64),
     InRow(Scan),
-}
-
-pub fn mid(g: Gap) -> f64
-    ensures { result ≡ Search.mid (gap_of g) }
-{
-    0.5 * (g.inside.x + g.outside)
-}
-
-// With the value y at the angle x within the gap.
-pub fn halved(g: Gap, x: f64, y: f64) -> Gap
-    ensures { gap_of result ≡ Search.if_inside (is_finite y) x y (gap_of g) }
-{
-    if is_finite(y) {
-        return Gap {
-            inside: Point { x, y },
-            ..g
-        };
-    }
-    Gap { outside: x, ..g }
-}
-
-// The angle of sample number j from the branch's end at lo towards the grid's sample at x.
-pub fn sub_angle(lo: f64, x: f64, j: u64) -> f64
-    ensures { result ≡ lo ⊕ (x ⊖ lo) ⊗ Search.share j }
-{
-    let d = x - lo;
-    lo + d * share(j)
 }
 
 // The row is scanned.
@@ -96,7 +59,7 @@ pub fn take_way<const N: usize>(
 
 // k halvings are still to be made.
 pub fn halve_way(k: usize, g: Gap, row: &mut ArrayVec<Point, 9>) -> Edge
-    ensures { (o : Place → Origin) (p : DipDefinition.Point) (room : ℕ) (h : List DeclaredFound.Found) → landing h (Some (edge_of row.new.items result)) ≡ landed room h (Steps.halve_way o p k (gap_of g)) }
+    ensures { (o : Place → Origin) (p : DipDefinition.Point) (room : ℕ) (h : List DeclaredFound.Found) → landing h (Some (edge_of row.new.items result)) ≡ landed room h (Steps.halve_way o p k (gap g)) }
 {
     if k == 0 {
         row.clear();
@@ -107,7 +70,7 @@ pub fn halve_way(k: usize, g: Gap, row: &mut ArrayVec<Point, 9>) -> Edge
 
 // An edge asks at once: 16 halvings are to be made.
 pub fn edge_way(g: Gap) -> Edge
-    ensures { (o : Place → Origin) (r : List _) (room : ℕ) (h : List DeclaredFound.Found) → landing h (Some (edge_of r result)) ≡ landed room h (Steps.edge_way o (gap_of g)) }
+    ensures { (o : Place → Origin) (r : List _) (room : ℕ) (h : List DeclaredFound.Found) → landing h (Some (edge_of r result)) ≡ landed room h (Steps.edge_way o (gap g)) }
 {
     Edge::Halving(15, g)
 }
@@ -125,10 +88,8 @@ pub fn take_next<const N: usize>(
     requires { (length row.old.items < j) × (j ≤ 7) }
     ensures { (o : Place → Origin) → ((q : Place) → component (o q) ≡ i) → came (edge_of row.new.items) found.new.items result ≡ landed N found.old.items (Steps.edge_next o (point_of p) (Steps.taking (point_of e) (7 - j) j (map point_of row.old.items)) y) }
 {
-    if is_finite(y) {
-        let x = sub_angle(e.x, p.x, j);
-        row.push(Point { x, y });
-    }
+    let x = sub_angle(e.x, p.x, j);
+    keep_finite(row, Point { x, y });
     take_way(i, p, e, j + 1, row, found)
 }
 
@@ -137,13 +98,14 @@ pub fn edge_angle(p: Point, z: Edge, row: &ArrayVec<Point, 9>) -> f64
     ensures { (o : Place → Origin) → result ≡ Steps.edge_angle o (point_of p) (edge_of row.now.items z) }
 {
     match z {
-        Edge::Halving(_, g) => mid(g),
+        Edge::Halving(_, g) => g.mid(),
         Edge::Taking(e, j) => sub_angle(e.x, p.x, j),
         Edge::InRow(s) => scan_angle(Row::Edge(row.as_slice()), whole(row), s),
     }
 }
 
-// What an edge comes to with the value y at the angle that it asks.
+// What an edge comes to with the value y at the angle that it asks. What is kept of its numbers is no ghost
+// field of Edge, since it speaks of the row too, which lies in a list that the caller lends.
 pub fn edge_next<const N: usize>(
     i: u8,
     p: Point,
@@ -156,7 +118,7 @@ pub fn edge_next<const N: usize>(
     ensures { (o : Place → Origin) → ((q : Place) → component (o q) ≡ i) → came (edge_of row.new.items) found.new.items result ≡ landed N found.old.items (Steps.edge_next o (point_of p) (edge_of row.old.items z) y) }
 {
     match z {
-        Edge::Halving(k, g) => Some(halve_way(k, halved(g, mid(g), y), row)),
+        Edge::Halving(k, g) => Some(halve_way(k, g.halved(g.mid(), y), row)),
         Edge::Taking(e, j) => take_next(i, p, e, j, y, row, found),
         Edge::InRow(s) => {
             let run = whole(row);

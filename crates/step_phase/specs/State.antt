@@ -4,7 +4,7 @@ use Rattle.search_steps.specs.Way.{Way, chain}
 use Rattle.search_steps.specs.ComponentSteps.{Component, component_next}
 use Rattle.search_steps.specs.Steps as Steps
 use Rattle.search_steps.specs.Steps.{Samples, taken_at, searching, components_way}
-use Rattle.step_refine.specs.declared.Point as DeclaredPoint
+use Rattle.step_refine.specs.Point as DeclaredPoint
 use Rattle.step_component.specs.State.{component_of}
 use Rattle.step_phase.specs.declared.phase.Place as DeclaredPlace
 

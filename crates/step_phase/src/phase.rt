@@ -1,7 +1,7 @@
 // The walk over the four components, each over its own of the grid's samples; n is the last sample's number.
 ghost use Rattle.std.specs.Prelude.{◌≡◌, List, ℕ, ◌-◌};
 ghost use Rattle.search_steps.specs.Steps.{components_way};
-ghost use Rattle.step_refine.specs.declared.Point as DeclaredPoint;
+ghost use Rattle.step_refine.specs.Point as DeclaredPoint;
 ghost use Rattle.step_pairs.specs.Landed.{landed, came};
 ghost use Rattle.step_scan.specs.State.{samples_of};
 ghost use Rattle.step_component.specs.State.{component_of, Handy};

@@ -7,7 +7,7 @@ use Rattle.search_steps.specs.ScanSteps.{last_pair}
 use Rattle.search_steps.specs.Steps.{row_of, taken_at}
 use Rattle.step_scan.specs.State.{value, samples_of, nowhere, points, len_of}
 use Rattle.step_refine.specs.State.{point_of}
-use Rattle.step_refine.specs.declared.Point as DeclaredPoint
+use Rattle.step_refine.specs.Point as DeclaredPoint
 use Rattle.step_scan.specs.declared.row.Sample.{Sample}
 use Rattle.step_scan.specs.declared.row.Row.{Row}
 use Rattle.step_scan.specs.declared.row.Row.TheVariants.{Grid, Edge}

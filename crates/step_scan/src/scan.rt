@@ -116,7 +116,7 @@ pub fn scan_angle(row: Row, run: Run, z: Scan) -> f64
     ensures { (o : Place → Origin) → result ≡ Steps.scan_angle o (points row.entry) run.from (last_of run) (scan_of (last_of run) z) }
 {
     match z {
-        Scan::Crossing(_, r) => step_refine::guess(r.at),
+        Scan::Crossing(_, r) => r.at.next(),
         Scan::Inner(l, d) => dip_angle(row.at(l), row.behind(l, 2), d),
         Scan::Last(d) => {
             let t = run.last_pair();

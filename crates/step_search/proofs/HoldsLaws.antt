@@ -10,7 +10,7 @@ use Rattle.search_steps.specs.Steps.{Samples, more, Phase, sampling, ended, Stat
 use Rattle.search_steps.specs.Run.{step}
 use Rattle.search_error.specs.Fixed.{error_of, error_at}
 use Rattle.search_error.specs.declared.Fixed.{Fixed}
-use Rattle.step_refine.specs.declared.Point as DeclaredPoint
+use Rattle.step_refine.specs.Point as DeclaredPoint
 use Rattle.step_pairs.specs.declared.Found as DeclaredFound
 use Rattle.step_pairs.specs.Landed.{putting, Landed, landed, came}
 use Rattle.step_pairs.proofs.LandedLaws.{putting_both}

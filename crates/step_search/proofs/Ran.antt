@@ -10,7 +10,7 @@ use Rattle.search_steps.specs.Kept.{PhaseKept, Kept}
 use Rattle.search_steps.specs.Run.{step, steps, evaluations}
 use Rattle.search_steps.proofs.Run.{search_runs}
 use Rattle.search_steps.proofs.Kept.{start_kept, next_kept}
-use Rattle.step_refine.specs.declared.Point as DeclaredPoint
+use Rattle.step_refine.specs.Point as DeclaredPoint
 use Rattle.step_pairs.specs.declared.Found.{Found}
 use Rattle.step_pairs.specs.Landed.{pair_of, putting}
 use Rattle.step_pairs.proofs.LandedLaws.{put_there}

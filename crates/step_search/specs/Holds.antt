@@ -3,7 +3,7 @@ use Rattle.std.specs.Prelude.{◌≡◌, Bool, true, false, List, [], ℕ, ◌-�
 use Rattle.std.specs.Float.{nan}
 use Rattle.search_steps.specs.Steps as Steps
 use Rattle.search_steps.specs.Steps.{State, next}
-use Rattle.step_refine.specs.declared.Point as DeclaredPoint
+use Rattle.step_refine.specs.Point as DeclaredPoint
 use Rattle.step_pairs.specs.declared.Found as DeclaredFound
 use Rattle.step_pairs.specs.Landed.{putting}
 use Rattle.step_scan.specs.State.{samples_of}

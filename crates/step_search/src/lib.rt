@@ -9,7 +9,7 @@ ghost use Rattle.search_steps.specs.Steps as Steps;
 ghost use Rattle.search_steps.specs.Steps.{State, angle_in, more};
 ghost use Rattle.search_steps.specs.Kept.{PhaseKept};
 ghost use Rattle.search_steps.specs.Run as Run;
-ghost use Rattle.step_refine.specs.declared.Point as DeclaredPoint;
+ghost use Rattle.step_refine.specs.Point as DeclaredPoint;
 ghost use Rattle.step_scan.specs.State.{samples_of};
 ghost use Rattle.step_phase.specs.State.{place_of};
 ghost use Rattle.step_search.specs.Holds.{values, memory, phase_of, phase_at, is_over, Holds, StepsTo};
@@ -81,7 +81,8 @@ pub fn arrived(r: Option<Place>) -> SearchPhase
 }
 
 // What the search comes to from the sample that it asks, where e are the error's values. The last sample's step
-// goes on to the first evaluation in a component.
+// goes on to the first evaluation in a component. That n is at most 400 is no type's, since it is about the room
+// of `samples`, a list that the caller lends: a type for n alone would say it of no list.
 pub fn sample_next<const N: usize>(
     n: u32,
     e: [f64; 4],
@@ -116,7 +117,8 @@ pub fn component_next<const N: usize>(
     arrived(search_next(p, samples.as_slice(), n, y, row, found))
 }
 
-// What a phase comes to, where e are the error's values at the angle that it asks.
+// What a phase comes to, where e are the error's values at the angle that it asks. What is kept of its numbers is
+// no ghost field, since it speaks of the lists too, which the caller lends.
 pub fn next<const N: usize>(
     n: u32,
     phase: SearchPhase,

@@ -6,10 +6,10 @@ pub returns-then-not-is_finite : goal.returns-then-not-is_finite
 returns-then-not-is_finite c =
     no_value c.args.r.left (bracket_of c.args.r.at) c.args.y c.is_finite.ensures c.if-not-is_finite.true
 
-pub returns-then-near : goal.returns-then-near
-returns-then-near c =
-    arrived c.args.r.left (bracket_of c.args.r.at) c.args.y c.is_finite.ensures c.if-not-is_finite.false c.guess-p.ensures c.near.ensures c.if-near.true
+pub returns-then-is_near : goal.returns-then-is_near
+returns-then-is_near c =
+    arrived c.args.r.left (bracket_of c.args.r.at) c.args.y c.is_finite.ensures c.if-not-is_finite.false c.next-x.ensures c.is_near.ensures c.if-is_near.true
 
 pub returns : goal.returns
 returns c =
-    turned c.args.r.left (bracket_of c.args.r.at) c.args.y c.is_finite.ensures c.if-not-is_finite.false c.guess-p.ensures c.near.ensures c.if-near.false c.narrowed.ensures c.way.ensures
+    turned c.args.r.left (bracket_of c.args.r.at) c.args.y c.is_finite.ensures c.if-not-is_finite.false c.next-x.ensures c.is_near.ensures c.if-is_near.false c.narrowed.ensures c.way.ensures

@@ -7,8 +7,8 @@ returns-then-left-eq0 c = no_turn c.args.left (bracket_of c.args.s) c.if-left-eq
 
 pub returns-then-is_finite : goal.returns-then-is_finite
 returns-then-is_finite c =
-    goes_on c.args.left (bracket_of c.args.s) c.if-left-eq0.false c.guess.ensures c.is_finite.ensures c.if-is_finite.true
+    goes_on c.args.left (bracket_of c.args.s) c.if-left-eq0.false c.next.ensures c.is_finite.ensures c.if-is_finite.true
 
 pub returns : goal.returns
 returns c =
-    no_guess c.args.left (bracket_of c.args.s) c.if-left-eq0.false c.guess.ensures c.is_finite.ensures c.if-is_finite.false
+    no_guess c.args.left (bracket_of c.args.s) c.if-left-eq0.false c.next.ensures c.is_finite.ensures c.if-is_finite.false

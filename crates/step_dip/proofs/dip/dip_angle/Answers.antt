@@ -27,10 +27,10 @@ pub returns-in-Before : goal.returns-in-Before
 unfolding dip_angle refine_angle
 returns-in-Before c =
     let a = c.args in
-    λ o. angle_from o (point_of a.p) (point_of a.q) a.d _ c.in-Before.is c.guess.ensures
+    λ o. angle_from o (point_of a.p) (point_of a.q) a.d _ c.in-Before.is c.next.ensures
 
 pub returns-in-After : goal.returns-in-After
 unfolding dip_angle refine_angle
 returns-in-After c =
     let a = c.args in
-    λ o. angle_from o (point_of a.p) (point_of a.q) a.d _ c.in-After.is c.guess-in-After.ensures
+    λ o. angle_from o (point_of a.p) (point_of a.q) a.d _ c.in-After.is c.next-in-After.ensures

@@ -1,7 +1,7 @@
 use Rattle.std.proofs.Common.{◌≡◌, rules}
 use Rattle.std.specs.Option.{option_map}
 use Rattle.step_refine.specs.State.{point_of}
-use Rattle.step_edge.specs.State.{gap_of}
+use Rattle.step_edge.specs.State.{gap}
 use Rattle.step_edge.specs.declared.edge.Edge.TheVariants.{Halving, InRow}
 use Rattle.step_edge.proofs.EdgeLaws.{step_from, halving_steps, row_steps}
 use Rattle.step_edge.proofs.edge.edge_next.Goals as goal
@@ -12,7 +12,7 @@ returns-in-Halving g c =
     let h = c.args.found.now.items in
     λ o i.
     step_from o p c.args.row.now.items c.args.z (Halving c.in-Halving.k c.in-Halving.g) c.in-Halving.is g.row.N h c.args.y
-    (halving_steps g.row.N o h p c.in-Halving.k (gap_of c.in-Halving.g) c.args.y c.mid.ensures c.halved.ensures (c.halve_way.ensures o p g.row.N h))
+    (halving_steps g.row.N o h p c.in-Halving.k (gap c.in-Halving.g) c.args.y c.mid.ensures c.halved.ensures (c.halve_way.ensures o p g.row.N h))
 
 pub returns-in-InRow : goal.returns-in-InRow
 returns-in-InRow g c =

@@ -1,5 +1,5 @@
 use Rattle.std.proofs.Common.{◌≡◌, ◌∙◌, ap, List, [], ◌∷◌, ◌++◌, length, reverse}
-use Rattle.step_refine.specs.declared.Point.{Point}
+use Rattle.step_refine.specs.Point.{Point}
 use Rattle.step_edge.proofs.EdgeLaws.{refilled, closes, closes_straight, closes_reversed}
 use Rattle.step_edge.proofs.row.close_row.Goals as goal
 

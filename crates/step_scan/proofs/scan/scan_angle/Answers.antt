@@ -11,7 +11,7 @@ use Rattle.step_scan.proofs.scan.scan_angle.Goals as goal
 pub returns-in-Crossing : goal.returns-in-Crossing
 unfolding scan_angle refine_angle
 returns-in-Crossing c =
-    λ o. angle_from o (points c.args.row) c.args.run.from (last_of c.args.run) c.args.z _ c.in-Crossing.is c.guess.ensures
+    λ o. angle_from o (points c.args.row) c.args.run.from (last_of c.args.run) c.args.z _ c.in-Crossing.is c.next.ensures
 
 pub returns-in-Inner : goal.returns-in-Inner
 unfolding scan_angle
