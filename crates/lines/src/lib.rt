@@ -1,4 +1,5 @@
-// The lines of a block as bytes, made from the block, its place and the limits in force.
+// The lines of a block as bytes, made from the block, its place and the limits in force. (These are no
+// struct: three functions take them, each from the one before, and it would be made for that alone.)
 #![tactic(auto)]
 
 ghost use Rattle.std.specs.Prelude.{◌≡◌, []};
@@ -10,7 +11,8 @@ use solve_block::solve_block;
 pub use text::Buffer;
 use text::{head, lines_of, shown};
 
-// Room for the answers of a block, six angles and a flag each, and for its lines.
+// Room for the answers of a block, six angles and a flag each, and for its lines. (Angles and flags are
+// two lists, as a caller in C lends them to the block call, which writes to these too.)
 #[derive(Drop)]
 pub struct Space {
     pub angles: [f64; 6144],

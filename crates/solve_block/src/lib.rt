@@ -14,12 +14,14 @@ pub fn solve_block(bytes: &[u8], limits: &[f64], angles: &mut [f64], flags: &mut
     ensures angles { angles.new ≡ written (block_answers bytes.now limits.now) angles.old flags.old }
     ensures flags { flags.new ≡ flagged (block_answers bytes.now limits.now) angles.old flags.old }
 {
-    if let Err(refusal) = block::refusal(bytes) {
-        return refuse(refusal);
+    match block::refusal(bytes) {
+        Err(refusal) => refuse(refusal),
+        Ok(block) => {
+            let family = block.family();
+            let n = block.samples();
+            let arm = block.arm();
+            let pose = block.pose();
+            solve(family, n, &arm, &pose, limits, angles, flags)
+        }
     }
-    let family = block::family(bytes);
-    let n = block::samples(bytes);
-    let arm = block::arm(bytes);
-    let pose = block::pose(bytes);
-    solve(family, n, &arm, &pose, limits, angles, flags)
 }

@@ -17,7 +17,7 @@ module _ (bytes : List ℕ) (place : ℕ) {refused : ℕ} (e : refused ≡ limit
   its_line h = rw (← e, ne_eqb refused 0 h) refl
 
 pub returns-in-Err : goal.returns-in-Err
-returns-in-Err c = c.head.ensures.items ∙ rw c.number.ensures (its_line _ _ c.in-Err.ensures (number-positive _))
+returns-in-Err c = c.head.ensures.items ∙ rw c.number.ensures (its_line _ _ c.in-Err.ensures.refusal (number-positive _))
 
 pub returns-in_default : goal.returns-in_default
-returns-in_default c = c.clear.ensures ∙ no_line _ _ c.in_default.ensures refl
+returns-in_default c = c.clear.ensures ∙ no_line _ _ c.in_default.ensures.refusal refl

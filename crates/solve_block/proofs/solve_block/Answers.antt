@@ -4,7 +4,6 @@ use borrow.Author.Tests.{ne_eqb}
 use Rattle.answers.specs.Written.{room, written, flagged}
 use Rattle.answers.proofs.Laws.{nothing}
 use Rattle.block.specs.Block.{refusal, family, samples, arm, pose}
-use Rattle.block.proofs.Whole.{whole}
 use Rattle.refusals.proofs.Outcomes.{number-positive}
 use Rattle.solve.specs.InNumbers.{Solved, refuses}
 use Rattle.solve.specs.Solve.{answers, solve}
@@ -43,34 +42,25 @@ module _ (bytes : List ℕ) (limits a : List Float) (f : List ℕ) where
     flags-solved w = rw same at w
 
 pub returns-in-Err-clause-result : goal.returns-in-Err-clause-result
-returns-in-Err-clause-result c = c.refuse.ensures ∙ result-refused _ _ _ _ c.in-Err.ensures (number-positive _)
+returns-in-Err-clause-result c = c.refuse.ensures ∙ result-refused _ _ _ _ c.in-Err.ensures.refusal (number-positive _)
 
 pub returns-in-Err-clause-angles : goal.returns-in-Err-clause-angles
-returns-in-Err-clause-angles c = angles-refused _ _ _ _ c.in-Err.ensures (number-positive _)
+returns-in-Err-clause-angles c = angles-refused _ _ _ _ c.in-Err.ensures.refusal (number-positive _)
 
 pub returns-in-Err-clause-flags : goal.returns-in-Err-clause-flags
-returns-in-Err-clause-flags c = flags-refused _ _ _ _ c.in-Err.ensures (number-positive _)
+returns-in-Err-clause-flags c = flags-refused _ _ _ _ c.in-Err.ensures.refusal (number-positive _)
 
-pub family-family-requires : goal.family-family-requires
-family-family-requires c = whole _ c.in_default.ensures
+pub returns-in-Ok-clause-result : goal.returns-in-Ok-clause-result
+returns-in-Ok-clause-result c =
+    let e = c.in-Ok.ensures.block in
+    result-solved _ _ _ _ c.in-Ok.ensures.refusal (rw e at c.family-family.ensures) (rw e at c.samples-n.ensures) (rw e at c.arm-arm.ensures) (rw e at c.pose-pose.ensures) c.solve.ensures.result
 
-pub samples-n-requires : goal.samples-n-requires
-samples-n-requires c = whole _ c.in_default.ensures
+pub returns-in-Ok-clause-angles : goal.returns-in-Ok-clause-angles
+returns-in-Ok-clause-angles c =
+    let e = c.in-Ok.ensures.block in
+    angles-solved _ _ _ _ c.in-Ok.ensures.refusal (rw e at c.family-family.ensures) (rw e at c.samples-n.ensures) (rw e at c.arm-arm.ensures) (rw e at c.pose-pose.ensures) c.solve.ensures.angles
 
-pub arm-arm-requires : goal.arm-arm-requires
-arm-arm-requires c = whole _ c.in_default.ensures
-
-pub pose-pose-requires : goal.pose-pose-requires
-pose-pose-requires c = whole _ c.in_default.ensures
-
-pub returns-clause-result : goal.returns-clause-result
-returns-clause-result c =
-    result-solved _ _ _ _ c.in_default.ensures c.family-family.ensures c.samples-n.ensures c.arm-arm.ensures c.pose-pose.ensures c.solve.ensures.result
-
-pub returns-clause-angles : goal.returns-clause-angles
-returns-clause-angles c =
-    angles-solved _ _ _ _ c.in_default.ensures c.family-family.ensures c.samples-n.ensures c.arm-arm.ensures c.pose-pose.ensures c.solve.ensures.angles
-
-pub returns-clause-flags : goal.returns-clause-flags
-returns-clause-flags c =
-    flags-solved _ _ _ _ c.in_default.ensures c.family-family.ensures c.samples-n.ensures c.arm-arm.ensures c.pose-pose.ensures c.solve.ensures.flags
+pub returns-in-Ok-clause-flags : goal.returns-in-Ok-clause-flags
+returns-in-Ok-clause-flags c =
+    let e = c.in-Ok.ensures.block in
+    flags-solved _ _ _ _ c.in-Ok.ensures.refusal (rw e at c.family-family.ensures) (rw e at c.samples-n.ensures) (rw e at c.arm-arm.ensures) (rw e at c.pose-pose.ensures) c.solve.ensures.flags
