@@ -4,17 +4,16 @@ use mathlib.Core.Path.{◌≡◌, refl, sym, ap, ◌∙◌}
 use mathlib.Core.Bool.{Bool, true, false, cond, true≢false}
 use mathlib.Core.List.{List, [], ◌∷◌, ◌++◌}
 use native.Mathlib.Omega.{arith}
-use lib.ListN.{length, length-append, length-take}
+use lib.ListN.{length, length-append}
 use Rattle.std.proofs.Common.{Option, IfSome, None, subst, append-nil, append_assoc}
 use Rattle.std.proofs.KnownBytes.{Consumes-nil, Consumes-trans, Consumes-all, Appends-nil, Appends-trans}
 use Rattle.std.specs.Io.KnownBytes.{Appends, Consumes}
 use Rattle.stream.specs.Standing.{Standing, start, some, next, go_on}
 use Rattle.stream.specs.Calls.{Call, after, reads, writes, all_read, all_written, Fitting, Served, Copied}
-use Rattle.stream.specs.Progress.{standing, Sound, Turned}
+use Rattle.stream.specs.Progress.{standing, Turned}
 use Rattle.stream.specs.declared.progress.Ask.{Ask}
 use Rattle.stream.specs.declared.progress.Ask.TheVariants.{Stop}
 use Rattle.stream.specs.declared.progress.Progress.{Progress}
-use Rattle.stream.specs.declared.progress.Workspace.{Workspace}
 use Rattle.stream.proofs.Right.{after_one, fitting_one, right}
 
 -- one call more
@@ -43,36 +42,33 @@ ended_reads s c e = rw e (none s.failed (some s.pending))
     none false false = refl
 
 -- n calls were made, each a place at most further on
-pub record Reached (p : Progress) (w : Workspace) (n : ℕ) (left₀ left held₀ held : Option (List ℕ)) : Type 0 where
-  pub sound : Sound p w
+pub record Reached (p : Progress) (n : ℕ) (left₀ left held₀ held : Option (List ℕ)) : Type 0 where
   pub calls : List Call
   pub counted : length calls ≡ n
   pub places : p.place ≤ n
   pub fitting : Fitting start calls
-  pub came : after start calls ≡ standing p w
+  pub came : after start calls ≡ standing p
   pub consumed : Consumes left₀ left (all_read start calls)
   pub appended : Appends held₀ held (all_written start calls)
   pub all_of_it : p.ended ≡ true → IfSome left₀ (λ input. all_read start calls ≡ input)
 
 module _ (left₀ held₀ : Option (List ℕ)) where
-  pub none_made : (w : Workspace) → length w.block ≡ 512 → w.limits ≡ None → w.lines.out.items ≡ []
-      → Reached (record { place = 0; filled = 0; written = 0; ended = false; failed = false }) w 0 left₀ left₀ held₀ held₀
+  pub none_made : (p : Progress) → standing p ≡ start → Reached p 0 left₀ left₀ held₀ held₀
   unfolding after Fitting all_read all_written
-  none_made w block_long unlimited empty =
+  none_made p stands =
       record {
-        sound = record { whole_block = block_long; room_left = omega arith; in_order = omega arith };
         calls = [];
         counted = refl;
-        places = omega arith;
+        places = omega (arith, ap (λ (s : Standing). s.place) stands);
         fitting = tt;
-        came = rw (unlimited, empty) refl;
+        came = sym stands;
         consumed = Consumes-nil left₀;
         appended = Appends-nil held₀;
-        all_of_it = λ is. absurd (true≢false (sym is));
+        all_of_it = λ is. absurd (true≢false (sym is ∙ ap (λ (s : Standing). s.ended) stands));
       }
 
-  module _ (p : Progress) (w : Workspace) (n : ℕ) (left held : Option (List ℕ)) (r : Reached p w n left₀ left held₀ held) where
-    module _ (q : Progress) (w' : Workspace) (left' held' : Option (List ℕ)) (t : Turned p w q w' left left' held held') where
+  module _ (p : Progress) (n : ℕ) (left held : Option (List ℕ)) (r : Reached p n left₀ left held₀ held) where
+    module _ (q : Progress) (left' held' : Option (List ℕ)) (t : Turned p q left left' held held') where
       abbrev call : Call
       call = record { gave = t.gave; behind = t.behind }
 
@@ -90,7 +86,7 @@ module _ (left₀ held₀ : Option (List ℕ)) where
       all_there true e is =
           let same : all_read start (r.calls ++ (call ∷ [])) ≡ all_read start r.calls =
           read_one start r.calls call ∙ ap (λ (s : Standing). all_read start r.calls ++ reads s call) r.came
-          ∙ ap (λ (l : List ℕ). all_read start r.calls ++ l) (ended_reads (standing p w) call e) ∙ append-nil (all_read start r.calls) in
+          ∙ ap (λ (l : List ℕ). all_read start r.calls ++ l) (ended_reads (standing p) call e) ∙ append-nil (all_read start r.calls) in
           subst (λ (xs : List ℕ). IfSome left₀ (λ input. xs ≡ input)) (sym same) (r.all_of_it e)
       all_there false e is =
           let m = t.moved in
@@ -98,15 +94,11 @@ module _ (left₀ held₀ : Option (List ℕ)) where
           let ends = m.ends (ap (λ (s : Standing). s.ended) (sym went.stands) ∙ is) e in
           Consumes-all left₀ left' (all_read start (r.calls ++ (call ∷ []))) [] (all_read start (r.calls ++ (call ∷ []))) all_consumed ends refl
 
-      pub one_more : Reached q w' (n + 1) left₀ left' held₀ held'
+      pub one_more : Reached q (n + 1) left₀ left' held₀ held'
       one_more =
-          let s = r.sound in
           let went = t.went in
-          let begun : length (after start r.calls).begun ≡ p.filled =
-          rw (r.came, length-take p.filled w.block) (omega (arith, s.whole_block, s.room_left)) in
-          let room : length (after start r.calls).begun + length call.behind ≡ 512 = rw begun (t.room) in
+          let room : length (after start r.calls).begun + length call.behind ≡ 512 = rw r.came (t.room) in
           record {
-            sound = went.sound;
             calls = r.calls ++ (call ∷ []);
             counted = rw (length-append r.calls (call ∷ [])) (omega (arith, r.counted));
             places = omega (arith, went.places, r.places);
@@ -117,13 +109,13 @@ module _ (left₀ held₀ : Option (List ℕ)) where
             all_of_it = all_there p.ended refl;
           }
 
-    pub served_out : 2 ^ 64 - 2 ≤ n → Served (standing p w) (2 ^ 64 - 2)
+    pub served_out : 2 ^ 64 - 2 ≤ n → Served (standing p) (2 ^ 64 - 2)
     served_out h = record { calls = r.calls; fitting = r.fitting; came = r.came; done = λ few. absurd (omega (arith, r.counted)) }
 
-    pub served_all : {ask : Ask} → ask ≡ next (standing p w) → ask ≡ Stop → Served (standing p w) (2 ^ 64 - 2)
+    pub served_all : {ask : Ask} → ask ≡ next (standing p) → ask ≡ Stop → Served (standing p) (2 ^ 64 - 2)
     served_all asked e = record { calls = r.calls; fitting = r.fitting; came = r.came; done = λ _. sym asked ∙ e }
 
-    pub copied : Copied (standing p w) left₀ left held₀ held
+    pub copied : Copied (standing p) left₀ left held₀ held
     copied =
         let all = right r.calls r.fitting in
         record {

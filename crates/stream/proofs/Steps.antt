@@ -8,7 +8,7 @@ use borrow.Author.Tests.{eq-eqb, ne_eqb}
 use lib.Dec.{eqb}
 use lib.Ieee.{Float}
 use lib.ListN.{length, take, drop, length-take, length-drop}
-use lib.Seq.{take-add, take_all, take-nil, drop-drop}
+use lib.Seq.{take-add, take_all, take-nil, drop-drop, drop-nil}
 use Rattle.std.proofs.Common.{Option, Some, None}
 use Rattle.std.proofs.KnownBytes.{Consumes-nil, Appends-nil}
 use Rattle.std.specs.Io.KnownBytes.{Appends, Consumes, IsAtEnd}
@@ -16,80 +16,71 @@ use Rattle.stream.specs.Calls.{Call, Moved, reads, writes}
 use Rattle.limits_block.specs.LimitsBlock.{accepted, in_force}
 use Rattle.lines.specs.Lines.{lines}
 use Rattle.stream.specs.Output.{place_after}
-use Rattle.stream.specs.Standing.{Standing, some, broken, delivered, full, received, closed, count, next, after_write, after_read, go_on}
-use Rattle.stream.specs.Progress.{numbers, standing, failing, wrote, Sound, Went, Turned}
+use Rattle.stream.specs.Standing.{Standing, numbers, some, broken, delivered, full, received, closed, count, next, after_write, after_read, go_on}
+use Rattle.stream.specs.Progress.{standing, Went, Turned}
 use Rattle.stream.specs.declared.progress.Ask.{Ask}
 use Rattle.stream.specs.declared.progress.Ask.TheVariants.{Write, Read, Stop}
 use Rattle.stream.specs.declared.progress.Progress.{Progress}
-use Rattle.stream.specs.declared.progress.Workspace.{Workspace}
-
-abbrev at : ℕ → ℕ → ℕ → Bool → Bool → Progress
-at place filled written ended failed = record { place = place; filled = filled; written = written; ended = ended; failed = failed }
 
 next_at_most : (place : ℕ) (accept : Bool) → cond accept place (place + 1) ≤ place + 1
 next_at_most place true = omega arith
 next_at_most place false = omega arith
 
--- `w` is the workspace before a step and `w'` after it
-module _ (p : Progress) (w w' : Workspace) (s : Sound p w) (same_block : w'.block ≡ w.block) where
-  whole : length w'.block ≡ 512
-  whole = ap length same_block ∙ s.whole_block
+-- `q` is the program after a step
+module _ (p q : Progress) (long : length p.block ≡ 512) where
+  begun_long : length (take p.filled p.block) ≡ p.filled
+  begun_long = let r = p.room_left in rw (length-take p.filled p.block) (omega (arith, long, r))
 
   -- the input ends
-  pub closes_none : p.filled ≡ 0 → w'.limits ≡ w.limits → w'.lines.out.items ≡ [] → Went (closed (standing p w)) (at p.place 0 0 true p.failed) p.place w'
+  pub closes_none : p.filled ≡ 0 → q.place ≡ p.place → q.filled ≡ 0 → q.limits ≡ p.limits → q.lines.out.items ≡ [] → q.ended ≡ true → q.failed ≡ p.failed
+      → Went (closed (standing p)) q p.place
   unfolding closed
-  closes_none h same_limits empty =
-      let e : length (take p.filled w.block) ≡ 0 = rw (length-take p.filled w.block) (omega arith) in
+  closes_none h e-p e-f e-l empty e-e e-b =
       record {
-        stands = rw (eq-eqb (length (take p.filled w.block)) 0 e, same_limits, empty) refl;
-        sound = record { whole_block = whole; room_left = omega arith; in_order = omega arith };
-        places = omega arith;
+        stands = rw (eq-eqb (length (take p.filled p.block)) 0 (begun_long ∙ h), e-p, e-f, e-l, empty, e-e, e-b, drop-nil) refl;
+        places = omega (arith, e-p);
       }
 
-  module _ {l : List Float} (held : l ≡ numbers w.limits) where
-    pub closes_short : (p.filled ≡ 0 → ⊥) → w'.limits ≡ w.limits → w'.lines.out.items ≡ lines (take p.filled w.block) p.place l
-        → Went (closed (standing p w)) (at p.place 0 0 true p.failed) p.place w'
-    unfolding closed
-    closes_short h same_limits printed =
-        let e : length (take p.filled w.block) ≡ p.filled = rw (length-take p.filled w.block) (omega (arith, s.whole_block, s.room_left)) in
-        record {
-          stands = rw (ne_eqb (length (take p.filled w.block)) 0 (λ z. h (sym e ∙ z)), same_limits, printed, held) refl;
-          sound = record { whole_block = whole; room_left = omega arith; in_order = omega arith };
-          places = omega arith;
-        }
+  pub closes_short : {l : List Float} → l ≡ numbers p.limits → (p.filled ≡ 0 → ⊥) → q.place ≡ p.place → q.filled ≡ 0 → q.written ≡ 0 → q.limits ≡ p.limits
+      → q.lines.out.items ≡ lines (take p.filled p.block) p.place l → q.ended ≡ true → q.failed ≡ p.failed
+      → Went (closed (standing p)) q p.place
+  unfolding closed
+  closes_short held h e-p e-f e-w e-l printed e-e e-b =
+      record {
+        stands = rw (ne_eqb (length (take p.filled p.block)) 0 (λ z. h (sym begun_long ∙ z)), e-p, e-f, e-w, e-l, printed, e-e, e-b, held) refl;
+        places = omega (arith, e-p);
+      }
 
-    -- the block is full
-    pub filled_up : {accept : Bool} {place : ℕ} → w'.lines.out.items ≡ lines w.block p.place l → accept ≡ accepted w.block
-        → numbers w'.limits ≡ in_force w.block (numbers w.limits) → place ≡ cond accept p.place (p.place + 1)
-        → Went (full (standing p w) w.block) (at place 0 0 p.ended p.failed) p.place w'
-    unfolding full place_after
-    filled_up {accept} printed e-a e-l e-p =
-        record {
-          stands = rw (e-p, e-l, e-a, printed, held) refl;
-          sound = record { whole_block = whole; room_left = omega arith; in_order = omega arith };
-          places = rw e-p (next_at_most p.place accept);
-        }
+  -- the block is full
+  pub filled_up : {l : List Float} {accept : Bool} → l ≡ numbers p.limits → q.lines.out.items ≡ lines p.block p.place l → accept ≡ accepted p.block
+      → numbers q.limits ≡ in_force p.block (numbers p.limits) → q.place ≡ cond accept p.place (p.place + 1) → q.filled ≡ 0 → q.written ≡ 0 → q.ended ≡ p.ended → q.failed ≡ p.failed
+      → Went (full (standing p) p.block) q p.place
+  unfolding full place_after
+  filled_up {accept = accept} held printed e-a e-l e-p e-f e-w e-e e-b =
+      record {
+        stands = rw (e-p, e-f, e-w, e-l, e-e, e-b, e-a, printed, held) refl;
+        places = rw e-p (next_at_most p.place accept);
+      }
 
   -- n bytes more do not fill the block
-  pub begins : (n : ℕ) → p.filled + n ≤ 512 → (p.filled + n ≡ 512 → ⊥) → w'.limits ≡ w.limits → w'.lines.out.items ≡ []
-      → Went (received (standing p w) (take n (drop p.filled w.block))) (at p.place (p.filled + n) 0 p.ended p.failed) p.place w'
+  pub begins : (n : ℕ) → p.filled + n ≤ 512 → (p.filled + n ≡ 512 → ⊥) → q.place ≡ p.place → q.block ≡ p.block → q.filled ≡ p.filled + n → q.limits ≡ p.limits → q.lines.out.items ≡ []
+      → q.ended ≡ p.ended → q.failed ≡ p.failed
+      → Went (received (standing p) (take n (drop p.filled p.block))) q p.place
   unfolding received
-  begins n all h same_limits empty =
-      let more : take p.filled w.block ++ take n (drop p.filled w.block) ≡ take (p.filled + n) w.block = sym (take-add p.filled n w.block) in
-      let long : length (take (p.filled + n) w.block) ≡ p.filled + n = rw (length-take (p.filled + n) w.block) (omega (arith, s.whole_block)) in
+  begins n all h e-p e-k e-f e-l empty e-e e-b =
+      let more : take p.filled p.block ++ take n (drop p.filled p.block) ≡ take (p.filled + n) p.block = sym (take-add p.filled n p.block) in
+      let so_long : length (take (p.filled + n) p.block) ≡ p.filled + n = rw (length-take (p.filled + n) p.block) (omega (arith, long)) in
       record {
-        stands = rw (more, ne_eqb (length (take (p.filled + n) w.block)) 512 (λ z. h (sym long ∙ z)), same_limits, same_block, empty) refl;
-        sound = record { whole_block = whole; room_left = omega arith; in_order = omega arith };
-        places = omega arith;
+        stands = rw (more, ne_eqb (length (take (p.filled + n) p.block)) 512 (λ z. h (sym so_long ∙ z)), e-p, e-k, e-f, e-l, empty, e-e, e-b, drop-nil) refl;
+        places = omega (arith, e-p);
       }
 
--- they do
-pub fills : (p : Progress) (w : Workspace) (s : Sound p w) (n : ℕ) {r : Progress} {w' : Workspace} → p.filled + n ≡ 512 → Went (full (standing p w) w.block) r p.place w'
-    → Went (received (standing p w) (take n (drop p.filled w.block))) r p.place w'
-unfolding received
-fills p w s n h went =
-    let whole : take p.filled w.block ++ take n (drop p.filled w.block) ≡ w.block = sym (take-add p.filled n w.block) ∙ take_all (p.filled + n) w.block (omega (arith, s.whole_block)) in
-    rw (whole, eq-eqb (length w.block) 512 s.whole_block) went
+  -- they do
+  pub fills : (n : ℕ) → p.filled + n ≡ 512 → Went (full (standing p) p.block) q p.place → Went (received (standing p) (take n (drop p.filled p.block))) q p.place
+  unfolding received
+  fills n h went =
+      let whole : take p.filled p.block ++ take n (drop p.filled p.block) ≡ p.block = sym (take-add p.filled n p.block) ∙ take_all (p.filled + n) p.block (omega (arith, long)) in
+      rw (whole, eq-eqb (length p.block) 512 long) went
 
 some_of : (l : List ℕ) → 0 < length l → some l ≡ true
 some_of [] h = absurd (omega arith)
@@ -99,61 +90,74 @@ none_of : (l : List ℕ) → length l ≤ 0 → some l ≡ false
 none_of [] h = refl
 none_of (x ∷ l) h = absurd (omega arith)
 
-module _ (p : Progress) (w : Workspace) (s : Sound p w) where
-  -- after a write
-  written_on : (n : ℕ) (t : Bool) → eqb n 0 ≡ t → p.written + n ≤ length w.lines.out.items
-      → Went (cond t (broken (standing p w)) (record { place = p.place; limits = numbers w.limits; begun = take p.filled w.block; pending = drop n (drop p.written w.lines.out.items); ended = p.ended; failed = p.failed }))
-      (cond t (failing p) (at p.place p.filled (p.written + n) p.ended p.failed)) p.place w
+module _ (p q : Progress) where
+  -- after a call that failed
+  pub failed_on : q.place ≡ p.place → q.block ≡ p.block → q.filled ≡ p.filled → q.limits ≡ p.limits → q.lines ≡ p.lines → q.written ≡ p.written → q.ended ≡ p.ended → q.failed ≡ true
+      → Went (broken (standing p)) q p.place
   unfolding broken
-  written_on n true e fits =
-      record { stands = refl; sound = record { whole_block = s.whole_block; room_left = s.room_left; in_order = s.in_order }; places = omega arith }
-  written_on n false e fits =
-      record {
-        stands = rw (drop-drop n p.written w.lines.out.items) refl;
-        sound = record { whole_block = s.whole_block; room_left = s.room_left; in_order = fits };
-        places = omega arith;
-      }
+  failed_on e-p e-k e-f e-l e-o e-w e-e e-b = record { stands = rw (e-p, e-k, e-f, e-l, e-o, e-w, e-e, e-b) refl; places = omega (arith, e-p) }
 
-  pub writes_on : (gave : Option ℕ) → p.written + count gave ≤ length w.lines.out.items → Went (after_write (standing p w) gave) (wrote p (count gave)) p.place w
-  unfolding after_write delivered
-  writes_on (Some n) fits = written_on n (eqb n 0) refl fits
-  writes_on None fits = written_on 0 true refl fits
+  module _ (gave : Option ℕ) {took : ℕ} (e : took ≡ count gave) where
+    -- after a write
+    pub writes_none : took ≡ 0 → q.place ≡ p.place → q.block ≡ p.block → q.filled ≡ p.filled → q.limits ≡ p.limits → q.lines ≡ p.lines → q.written ≡ p.written → q.ended ≡ p.ended → q.failed ≡ true
+        → Went (after_write (standing p) gave) q p.place
+    unfolding after_write delivered
+    writes_none z e-p e-k e-f e-l e-o e-w e-e e-b = by_gave gave (sym e ∙ z)
+      where
+        by_gave : (g : Option ℕ) → count g ≡ 0 → Went (after_write (standing p) g) q p.place
+        by_gave (Some n) z = rw (eq-eqb n 0 z) (failed_on e-p e-k e-f e-l e-o e-w e-e e-b)
+        by_gave None z = failed_on e-p e-k e-f e-l e-o e-w e-e e-b
+
+    pub writes_some : (took ≡ 0 → ⊥) → q.place ≡ p.place → q.block ≡ p.block → q.filled ≡ p.filled → q.limits ≡ p.limits → q.lines ≡ p.lines → q.written ≡ p.written + took
+        → q.ended ≡ p.ended → q.failed ≡ p.failed → Went (after_write (standing p) gave) q p.place
+    unfolding after_write delivered
+    writes_some h e-p e-k e-f e-l e-o e-w e-e e-b = by_gave gave (λ z. h (e ∙ z)) (e-w ∙ ap (λ (n : ℕ). p.written + n) e)
+      where
+        by_gave : (g : Option ℕ) → (count g ≡ 0 → ⊥) → q.written ≡ p.written + count g → Went (after_write (standing p) g) q p.place
+        by_gave (Some n) h f =
+            record {
+              stands = rw (ne_eqb n 0 h, e-p, e-k, e-f, e-l, e-o, f, e-e, e-b, drop-drop n p.written p.lines.out.items) refl;
+              places = omega (arith, e-p);
+            }
+        by_gave None h f = absurd (h refl)
 
   -- after a read
-  pub reads_fail : {gave : Option ℕ} → gave ≡ None → Went (after_read (standing p w) gave (drop p.filled w.block)) (failing p) p.place w
-  unfolding after_read
-  reads_fail e = rw e (written_on 0 true refl (omega (arith, s.in_order)))
-
-  module _ {gave : Option ℕ} {n : ℕ} {r : Progress} {w' : Workspace} (e : gave ≡ Some n) where
-    pub reads_none : n ≡ 0 → Went (closed (standing p w)) r p.place w' → Went (after_read (standing p w) gave (drop p.filled w.block)) r p.place w'
+  module _ {gave : Option ℕ} where
+    pub reads_fail : gave ≡ None → q.place ≡ p.place → q.block ≡ p.block → q.filled ≡ p.filled → q.limits ≡ p.limits → q.lines ≡ p.lines → q.written ≡ p.written → q.ended ≡ p.ended → q.failed ≡ true
+        → Went (after_read (standing p) gave (drop p.filled p.block)) q p.place
     unfolding after_read
-    reads_none h went = rw (e, eq-eqb n 0 h) went
+    reads_fail e e-p e-k e-f e-l e-o e-w e-e e-b = rw e (failed_on e-p e-k e-f e-l e-o e-w e-e e-b)
 
-    pub reads_some : (n ≡ 0 → ⊥) → Went (received (standing p w) (take n (drop p.filled w.block))) r p.place w'
-        → Went (after_read (standing p w) gave (drop p.filled w.block)) r p.place w'
-    unfolding after_read
-    reads_some h went = rw (e, ne_eqb n 0 h) went
+    module _ {n : ℕ} (e : gave ≡ Some n) where
+      pub reads_none : n ≡ 0 → Went (closed (standing p)) q p.place → Went (after_read (standing p) gave (drop p.filled p.block)) q p.place
+      unfolding after_read
+      reads_none h went = rw (e, eq-eqb n 0 h) went
+
+      pub reads_some : (n ≡ 0 → ⊥) → Went (received (standing p) (take n (drop p.filled p.block))) q p.place
+          → Went (after_read (standing p) gave (drop p.filled p.block)) q p.place
+      unfolding after_read
+      reads_some h went = rw (e, ne_eqb n 0 h) went
 
 -- `next`
-module _ (p : Progress) (w : Workspace) where
-  pub asks_none : p.failed ≡ true → Stop ≡ next (standing p w)
+module _ (p : Progress) where
+  pub asks_none : p.failed ≡ true → Stop ≡ next (standing p)
   unfolding next
   asks_none h = rw h refl
 
   module _ (well : p.failed ≡ false) where
-    pub asks_write : p.written < length w.lines.out.items → Write ≡ next (standing p w)
+    pub asks_write : p.written < length p.lines.out.items → Write ≡ next (standing p)
     unfolding next
-    asks_write h = rw (well, some_of (drop p.written w.lines.out.items) (rw (length-drop p.written w.lines.out.items) (omega arith))) refl
+    asks_write h = rw (well, some_of (drop p.written p.lines.out.items) (rw (length-drop p.written p.lines.out.items) (omega arith))) refl
 
-    module _ (h : length w.lines.out.items ≤ p.written) where
-      none_left : some (drop p.written w.lines.out.items) ≡ false
-      none_left = none_of (drop p.written w.lines.out.items) (rw (length-drop p.written w.lines.out.items) (omega arith))
+    module _ (h : length p.lines.out.items ≤ p.written) where
+      none_left : some (drop p.written p.lines.out.items) ≡ false
+      none_left = none_of (drop p.written p.lines.out.items) (rw (length-drop p.written p.lines.out.items) (omega arith))
 
-      pub asks_end : p.ended ≡ true → Stop ≡ next (standing p w)
+      pub asks_end : p.ended ≡ true → Stop ≡ next (standing p)
       unfolding next
       asks_end e = rw (none_left, well, e) refl
 
-      pub asks_read : p.ended ≡ false → Read ≡ next (standing p w)
+      pub asks_read : p.ended ≡ false → Read ≡ next (standing p)
       unfolding next
       asks_read e = rw (none_left, well, e) refl
 
@@ -253,51 +257,52 @@ module _ (place : ℕ) (limits : List Float) (begun : List ℕ) (h : Option ℕ)
         ends = λ is not. ends (read_ends (mk place limits begun [] false false) h behind is not);
       }
 
-module _ (p : Progress) (w : Workspace) {ask : Ask} (s : Sound p w) (asked : ask ≡ next (standing p w)) where
+module _ (p : Progress) {ask : Ask} (long : length p.block ≡ 512) (asked : ask ≡ next (standing p)) where
   pending : List ℕ
-  pending = drop p.written w.lines.out.items
+  pending = drop p.written p.lines.out.items
 
-  room : p.filled + length (drop p.filled w.block) ≡ 512
-  room = rw (length-drop p.filled w.block) (omega (arith, s.whole_block, s.room_left))
+  room : length (take p.filled p.block) + length (drop p.filled p.block) ≡ 512
+  room = let r = p.room_left in rw (length-drop p.filled p.block, length-take p.filled p.block) (omega (arith, long, r))
 
-  pub turned_stop : (left held : Option (List ℕ)) → ask ≡ Stop → Turned p w p w left left held held
+  pub turned_stop : (left held : Option (List ℕ)) → ask ≡ Stop → Turned p p left left held held
   unfolding pending
   turned_stop left held e =
-      let same = stop_stays p.place (numbers w.limits) (take p.filled w.block) None (drop p.filled w.block) pending p.ended p.failed (sym e ∙ asked) in
+      let same = stop_stays p.place (numbers p.limits) (take p.filled p.block) None (drop p.filled p.block) pending p.ended p.failed (sym e ∙ asked) in
       record {
         gave = None;
-        behind = drop p.filled w.block;
+        behind = drop p.filled p.block;
         room = room;
-        went = record { stands = sym same; sound = s; places = omega arith };
-        moved = stop_moves p.place (numbers w.limits) (take p.filled w.block) None (drop p.filled w.block) left held pending p.ended p.failed (sym e ∙ asked);
+        went = record { stands = sym same; places = omega arith };
+        moved = stop_moves p.place (numbers p.limits) (take p.filled p.block) None (drop p.filled p.block) left held pending p.ended p.failed (sym e ∙ asked);
       }
 
-  pub turned_write : (left held₀ held : Option (List ℕ)) (gave : Option ℕ) {r : Progress} → ask ≡ Write → p.written + count gave ≤ length w.lines.out.items → r ≡ wrote p (count gave)
-      → Appends held₀ held (take (count gave) (drop p.written w.lines.out.items)) → Turned p w r w left left held₀ held
+  pub turned_write : (left held₀ held : Option (List ℕ)) (gave : Option ℕ) {r : Progress} → ask ≡ Write → Went (after_write (standing p) gave) r p.place
+      → Appends held₀ held (take (count gave) (drop p.written p.lines.out.items)) → Turned p r left left held₀ held
   unfolding pending
-  turned_write left held₀ held gave e fits wr more =
-      let goes = write_goes p.place (numbers w.limits) (take p.filled w.block) gave (drop p.filled w.block) pending p.ended p.failed (sym e ∙ asked) in
+  turned_write left held₀ held gave e went more =
+      let goes = write_goes p.place (numbers p.limits) (take p.filled p.block) gave (drop p.filled p.block) pending p.ended p.failed (sym e ∙ asked) in
       record {
         gave = gave;
-        behind = drop p.filled w.block;
+        behind = drop p.filled p.block;
         room = room;
-        went = rw (goes, wr) (writes_on p w s gave fits);
-        moved = write_moves p.place (numbers w.limits) (take p.filled w.block) gave (drop p.filled w.block) left held₀ held pending p.ended p.failed (sym e ∙ asked) more;
+        went = rw goes went;
+        moved = write_moves p.place (numbers p.limits) (take p.filled p.block) gave (drop p.filled p.block) left held₀ held pending p.ended p.failed (sym e ∙ asked) more;
       }
 
-  -- `w₁` is the workspace after the read
-  pub turned_read : (left₀ left held : Option (List ℕ)) (gave : Option ℕ) (w₁ : Workspace) {w' : Workspace} {r : Progress} → ask ≡ Read
-      → length w₁.block ≡ length w.block → take p.filled w₁.block ≡ take p.filled w.block → w₁.limits ≡ w.limits → w₁.lines ≡ w.lines
-      → Consumes left₀ left (take (count gave) (drop p.filled w₁.block)) → (gave ≡ Some 0 → IsAtEnd left)
-      → Went (after_read (standing p w₁) gave (drop p.filled w₁.block)) r p.place w' → Turned p w r w' left₀ left held held
+  -- `block` is the block after the read
+  pub turned_read : (left₀ left held : Option (List ℕ)) (gave : Option ℕ) (block : List ℕ) {r : Progress} → ask ≡ Read
+      → length block ≡ length p.block → take p.filled block ≡ take p.filled p.block
+      → Consumes left₀ left (take (count gave) (drop p.filled block)) → (gave ≡ Some 0 → IsAtEnd left)
+      → Went (after_read (mk p.place (numbers p.limits) (take p.filled block) (drop p.written p.lines.out.items) p.ended p.failed) gave (drop p.filled block)) r p.place
+      → Turned p r left₀ left held held
   unfolding pending
-  turned_read left₀ left held gave w₁ e long begun limits lines_left more ends went =
-      let goes = read_goes p.place (numbers w.limits) (take p.filled w.block) gave (drop p.filled w₁.block) pending p.ended p.failed (sym e ∙ asked) in
-      let went' = rw (begun, limits, lines_left) at went in
+  turned_read left₀ left held gave block e so_long begun more ends went =
+      let goes = read_goes p.place (numbers p.limits) (take p.filled p.block) gave (drop p.filled block) pending p.ended p.failed (sym e ∙ asked) in
+      let went' = rw begun at went in
       record {
         gave = gave;
-        behind = drop p.filled w₁.block;
-        room = rw (length-drop p.filled w₁.block) (omega (arith, long, s.whole_block, s.room_left));
+        behind = drop p.filled block;
+        room = let r = p.room_left in rw (length-drop p.filled block, length-take p.filled p.block) (omega (arith, so_long, long, r));
         went = rw goes went';
-        moved = read_moves p.place (numbers w.limits) (take p.filled w.block) gave (drop p.filled w₁.block) left₀ left held pending p.ended p.failed (sym e ∙ asked) more ends;
+        moved = read_moves p.place (numbers p.limits) (take p.filled p.block) gave (drop p.filled block) left₀ left held pending p.ended p.failed (sym e ∙ asked) more ends;
       }

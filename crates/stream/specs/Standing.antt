@@ -18,6 +18,11 @@ pub record Standing : Type 0 where
   pub ended : Bool
   pub failed : Bool
 
+-- the numbers of the limits in force, where there are any
+abbrev pub numbers : Option (List Float) → List Float
+numbers None = []
+numbers (Some limits) = limits
+
 -- before the first call
 abbrev pub start : Standing
 start = record { place = 0; limits = []; begun = []; pending = []; ended = false; failed = false }

@@ -4,10 +4,9 @@ ghost use Rattle.std.specs.Prelude.{◌≡◌, ℕ, ◌+◌, ◌-◌, ◌≤◌,
 ghost use Rattle.std.specs.Io.KnownBytes.{Appends, Consumes, IsAtEnd};
 ghost use Rattle.stream.specs.Standing.{count, next};
 ghost use Rattle.stream.specs.Calls.{Served, Copied};
-ghost use Rattle.stream.specs.Progress.{standing, Sound, Turned};
+ghost use Rattle.stream.specs.Progress.{standing, Turned};
 
-use crate::progress::{Ask, Progress, Workspace, after_read, after_write, hear, next};
-use lines::Space;
+use crate::progress::{Ask, Progress, hear};
 use std::io;
 use std::io::{Eprint, Read, Write};
 
@@ -36,73 +35,57 @@ fn write_on<O: Write>(output: &mut O, out: &[u8], written: usize) -> Option<usiz
 }
 
 // One read, and how the program goes on after it.
-fn read_turn<I: Read>(input: &mut I, p: Progress, w: &mut Workspace) -> Progress
-    requires { Sound p w.old × (p.place + 1 < 2 ^ 64) × (next (standing p w.old) ≡ Ask.Read) }
-    ensures { (held : Option (List ℕ)) → Turned p w.old result w.new (I.remaining input.old) (I.remaining input.new) held held }
+fn read_turn<I: Read>(input: &mut I, p: &mut Progress)
+    requires { (p.old.place + 1 < 2 ^ 64) × (next (standing p.old) ≡ Ask.Read) }
+    ensures { (held : Option (List ℕ)) → Turned p.old p.new (I.remaining input.old) (I.remaining input.new) held held }
 {
-    let gave = read_on(input, &mut w.block, p.filled);
-    after_read(p, gave, w)
+    let gave = read_on(input, &mut p.block, p.filled);
+    p.after_read(gave);
 }
 
 // One write, and how the program goes on after it.
-fn write_turn<O: Write>(output: &mut O, p: Progress, w: &Workspace) -> Progress
-    requires { Sound p w.now × (next (standing p w.now) ≡ Ask.Write) }
-    ensures { (left : Option (List ℕ)) → Turned p w.now result w.now left left (O.contents output.old) (O.contents output.new) }
+fn write_turn<O: Write>(output: &mut O, p: &mut Progress)
+    requires { next (standing p.old) ≡ Ask.Write }
+    ensures { (left : Option (List ℕ)) → Turned p.old p.new left left (O.contents output.old) (O.contents output.new) }
 {
-    let out = w.lines.out.as_slice();
-    let gave = write_on(output, out, p.written);
-    after_write(p, gave, out.len())
+    let gave = write_on(output, p.lines.out.as_slice(), p.written);
+    p.after_write(gave);
 }
 
 // One call of the system, and how the program goes on after it.
-fn turn<I: Read, O: Write>(
-    input: &mut I,
-    output: &mut O,
-    p: Progress,
-    ask: Ask,
-    w: &mut Workspace,
-) -> Progress
-    requires { Sound p w.old × (p.place + 1 < 2 ^ 64) × (ask ≡ next (standing p w.old)) }
-    ensures { Turned p w.old result w.new (I.remaining input.old) (I.remaining input.new) (O.contents output.old) (O.contents output.new) }
+fn turn<I: Read, O: Write>(input: &mut I, output: &mut O, p: &mut Progress, ask: Ask)
+    requires { (p.old.place + 1 < 2 ^ 64) × (ask ≡ next (standing p.old)) }
+    ensures { Turned p.old p.new (I.remaining input.old) (I.remaining input.new) (O.contents output.old) (O.contents output.new) }
 {
     match ask {
-        Ask::Stop => p,
-        Ask::Write => write_turn(output, p, w),
-        Ask::Read => read_turn(input, p, w),
+        Ask::Stop => {}
+        Ask::Write => write_turn(output, p),
+        Ask::Read => read_turn(input, p),
     }
 }
 
 // Calls until nothing more is asked. (No run comes to the last count.) What is written is the lines
 // of what is read, or a beginning of them.
-pub fn serve<I: Read, O: Write>(input: &mut I, output: &mut O, w: &mut Workspace) -> Progress
-    ensures served { Served (standing result w.new) (2 ^ 64 - 2) }
-    ensures copied { Copied (standing result w.new) (I.remaining input.old) (I.remaining input.new) (O.contents output.old) (O.contents output.new) }
+pub fn serve<I: Read, O: Write>(input: &mut I, output: &mut O, p: &mut Progress)
+    ensures served { Served (standing p.new) (2 ^ 64 - 2) }
+    ensures copied { Copied (standing p.new) (I.remaining input.old) (I.remaining input.new) (O.contents output.old) (O.contents output.new) }
 {
-    w.limits = None;
-    w.lines.out.clear();
-    let mut p = Progress {
-        place: 0,
-        filled: 0,
-        written: 0,
-        ended: false,
-        failed: false,
-    };
+    p.start();
     for _calls in 0..u64::MAX - 1 {
-        let ask = next(p, w);
+        let ask = p.next();
         if let Ask::Stop = ask {
-            return p;
+            return;
         }
-        p = turn(input, output, p, ask, w);
+        turn(input, output, p, ask);
     }
-    p
 }
 
 // A read or a write that failed is told: the lines then end early.
-fn tell<E: Eprint>(errors: &E, p: Progress, printed: usize) -> io::Result<()> {
+fn tell<E: Eprint>(errors: &E, p: &Progress) -> io::Result<()> {
     if !p.failed {
         return Ok(());
     }
-    if p.written < printed {
+    if p.written < p.lines.out.len() {
         eprintln!(errors; "saihkeb: standard output could not be written")
     } else {
         eprintln!(errors; "saihkeb: standard input could not be read")
@@ -113,11 +96,7 @@ fn tell<E: Eprint>(errors: &E, p: Progress, printed: usize) -> io::Result<()> {
 pub fn run(rt: &HostRuntime) -> io::Result<()> {
     let mut input = rt.stdin();
     let mut output = rt.stdout();
-    let mut w = Workspace {
-        block: [0; 512],
-        limits: None,
-        lines: Space::new(),
-    };
-    let p = serve(&mut input, &mut output, &mut w);
-    tell(rt, p, w.lines.out.len())
+    let mut p = Progress::new();
+    serve(&mut input, &mut output, &mut p);
+    tell(rt, &p)
 }

@@ -2,32 +2,31 @@
 // number that the call gave, what to print and how to go on.
 ghost use Rattle.std.specs.Prelude.{◌≡◌, cond, ◌+◌, ◌≤◌, ◌<◌, ◌^◌, length, take, drop};
 ghost use Rattle.limits_block.specs.LimitsBlock.{accepted, in_force};
-ghost use Rattle.stream.specs.Standing.{full, received, closed, heard, count, next, after_read};
-ghost use Rattle.stream.specs.Progress.{numbers, standing, wrote, Sound, Went};
+ghost use Rattle.stream.specs.Standing.{numbers, start, full, received, closed, heard, count, next, after_write, after_read};
 
 use limits_block::take_limits;
 use lines::{Space, lines};
 use std::io;
 
-// What the program keeps of what it reads and of what it prints: space for a block, the limits in
-// force where there are any, and space for the answers of a block and for their lines.
-#[derive(Drop)]
-pub struct Workspace {
-    pub block: [u8; 512],
-    pub limits: Option<[f64; 12]>,
-    pub lines: Space,
-}
-
 // How the program stands between two calls: of the block at `place` the first `filled` bytes were
 // read; of the lines the first `written` bytes were written, and as long as there are more nothing
-// is read. (No enum of states: `ended` and `failed` may each hold with lines still to be written.)
-#[derive(Clone, Copy)]
+// is read. A run is made in one of these, wherever it stood before. (No enum of states: `ended` and
+// `failed` may each hold with lines still to be written.)
+#[derive(Drop)]
 pub struct Progress {
     pub place: u64,
+    pub block: [u8; 512],
     pub filled: usize,
+    // those in force, where there are any
+    pub limits: Option<[f64; 12]>,
+    // space for the answers of a block and for their lines
+    pub lines: Space,
     pub written: usize,
     pub ended: bool,
     pub failed: bool,
+    // a read asks for at least a byte
+    pub ghost room_left: { filled < 512 },
+    pub ghost in_order: { written ≤ length lines.out.items },
 }
 
 // What the program asks of the system next.
@@ -45,21 +44,6 @@ pub fn hear(moved: io::Result<usize>, part: &[u8]) -> Option<usize>
     match moved {
         Ok(n) => Some(n.min(part.len())),
         Err(_) => None,
-    }
-}
-
-// After a write; one that takes nothing has failed.
-pub fn after_write(p: Progress, gave: Option<usize>, to: usize) -> Progress
-    requires { p.written + count gave ≤ to }
-    ensures { result ≡ wrote p (count gave) }
-{
-    let took = gave.unwrap_or(0);
-    if took == 0 {
-        return Progress { failed: true, ..p };
-    }
-    Progress {
-        written: p.written + took,
-        ..p
     }
 }
 
@@ -87,25 +71,6 @@ fn accept(block: &[u8], limits: &mut Option<[f64; 12]>) -> bool
     taken
 }
 
-// The input has ended: a block that was begun is a short last one.
-fn close(p: Progress, w: &mut Workspace) -> Progress
-    requires { Sound p w.old }
-    ensures { Went (closed (standing p w.old)) result p.place w.new }
-{
-    if p.filled == 0 {
-        w.lines.out.clear();
-    } else {
-        let limits = in_force(&w.limits);
-        lines(&w.block[..p.filled], p.place, limits, &mut w.lines);
-    }
-    Progress {
-        filled: 0,
-        written: 0,
-        ended: true,
-        ..p
-    }
-}
-
 // The place of the block after one; limits that were accepted take none.
 fn place_after(place: u64, accepted: bool) -> u64
     requires { place + 1 < 2 ^ 64 }
@@ -114,64 +79,135 @@ fn place_after(place: u64, accepted: bool) -> u64
     if accepted { place } else { place + 1 }
 }
 
-// A block is full: its lines are to be written, and limits that it brings are in force from here.
-fn fill(p: Progress, w: &mut Workspace) -> Progress
-    requires { Sound p w.old × (p.place + 1 < 2 ^ 64) }
-    ensures { Went (full (standing p w.old) w.old.block) result p.place w.new }
-{
-    lines(&w.block, p.place, in_force(&w.limits), &mut w.lines);
-    let accepted = accept(&w.block, &mut w.limits);
-    Progress {
-        place: place_after(p.place, accepted),
-        filled: 0,
-        written: 0,
-        ..p
-    }
-}
+// (That the next place fits its word stands in the contracts of a read, and in no type: it is so since
+// a run counts its calls, and goes on by one place at most with each.)
+impl Progress {
+    ghost use Rattle.stream.specs.Progress.{standing, Went};
 
-// n bytes more were read.
-fn take_in(p: Progress, n: usize, w: &mut Workspace) -> Progress
-    requires { Sound p w.old × (p.filled + n ≤ 512) × (p.place + 1 < 2 ^ 64) }
-    ensures { Went (received (standing p w.old) (take n (drop p.filled w.old.block))) result p.place w.new }
-{
-    let filled = p.filled + n;
-    if filled == 512 {
-        return fill(p, w);
+    // Before the first call.
+    pub fn new() -> Progress
+        ensures { standing result ≡ start }
+    {
+        Progress {
+            place: 0,
+            block: [0; 512],
+            filled: 0,
+            limits: None,
+            lines: Space::new(),
+            written: 0,
+            ended: false,
+            failed: false,
+        }
     }
-    w.lines.out.clear();
-    Progress {
-        filled,
-        written: 0,
-        ..p
-    }
-}
 
-// After a read.
-pub fn after_read(p: Progress, gave: Option<usize>, w: &mut Workspace) -> Progress
-    requires { Sound p w.old × (p.filled + count gave ≤ 512) × (p.place + 1 < 2 ^ 64) }
-    ensures { Went (after_read (standing p w.old) gave (drop p.filled w.old.block)) result p.place w.new }
-{
-    match gave {
-        None => Progress { failed: true, ..p },
-        Some(n) => {
-            if n == 0 {
-                close(p, w)
-            } else {
-                take_in(p, n, w)
+    // The same again, after another run.
+    pub fn start(&mut self)
+        ensures { standing self.new ≡ start }
+    {
+        self.place = 0;
+        self.filled = 0;
+        self.limits = None;
+        self.lines.out.clear();
+        self.written = 0;
+        self.ended = false;
+        self.failed = false;
+    }
+
+    // Lines are written before anything more is read; nothing is asked after a failure, nor at the
+    // end.
+    pub fn next(&self) -> Ask
+        ensures { result ≡ next (standing self.now) }
+    {
+        if self.failed {
+            return Ask::Stop;
+        }
+        if self.written < self.lines.out.len() {
+            return Ask::Write;
+        }
+        if self.ended { Ask::Stop } else { Ask::Read }
+    }
+
+    // After a write; one that takes nothing has failed.
+    #[tactic(auto, using(crate::proofs::Took::took_is))]
+    pub fn after_write(&mut self, gave: Option<usize>)
+        requires { self.old.written + count gave ≤ length self.old.lines.out.items }
+        ensures { Went (after_write (standing self.old) gave) self.new self.old.place }
+    {
+        let took = gave.unwrap_or(0);
+        let left = self.lines.out.len() - self.written;
+        prove!(took <= left);
+        if took == 0 {
+            self.failed = true;
+        } else {
+            self.written += took;
+        }
+    }
+
+    // The input has ended: a block that was begun is a short last one.
+    fn close(&mut self)
+        ensures { Went (closed (standing self.old)) self.new self.old.place }
+    {
+        self.written = 0;
+        self.ended = true;
+        if self.filled == 0 {
+            self.lines.out.clear();
+        } else {
+            let limits = in_force(&self.limits);
+            lines(
+                &self.block[..self.filled],
+                self.place,
+                limits,
+                &mut self.lines,
+            );
+            self.filled = 0;
+        }
+    }
+
+    // A block is full: its lines are to be written, and limits that it brings are in force from here.
+    fn fill(&mut self)
+        requires { self.old.place + 1 < 2 ^ 64 }
+        ensures { Went (full (standing self.old) self.old.block) self.new self.old.place }
+    {
+        lines(
+            &self.block,
+            self.place,
+            in_force(&self.limits),
+            &mut self.lines,
+        );
+        let accepted = accept(&self.block, &mut self.limits);
+        self.place = place_after(self.place, accepted);
+        self.filled = 0;
+        self.written = 0;
+    }
+
+    // n bytes more were read.
+    fn take_in(&mut self, n: usize)
+        requires { (self.old.filled + n ≤ 512) × (self.old.place + 1 < 2 ^ 64) }
+        ensures { Went (received (standing self.old) (take n (drop self.old.filled self.old.block))) self.new self.old.place }
+    {
+        let filled = self.filled + n;
+        if filled == 512 {
+            return self.fill();
+        }
+        self.lines.out.clear();
+        self.filled = filled;
+        self.written = 0;
+    }
+
+    // After a read.
+    pub fn after_read(&mut self, gave: Option<usize>)
+        requires { (self.old.filled + count gave ≤ 512) × (self.old.place + 1 < 2 ^ 64) }
+        ensures { Went (after_read (standing self.old) gave (drop self.old.filled self.old.block)) self.new self.old.place }
+    {
+        match gave {
+            None => self.failed = true,
+            Some(n) => {
+                if n == 0 {
+                    self.close();
+                } else {
+                    self.take_in(n);
+                }
             }
         }
     }
-}
-
-// Lines are written before anything more is read; nothing is asked after a failure, nor at the end.
-pub fn next(p: Progress, w: &Workspace) -> Ask
-    ensures { result ≡ next (standing p w.now) }
-{
-    if p.failed {
-        return Ask::Stop;
-    }
-    if p.written < w.lines.out.len() {
-        return Ask::Write;
-    }
-    if p.ended { Ask::Stop } else { Ask::Read }
 }
