@@ -272,27 +272,3 @@ module _ (registers : List ℕ) (address : ℕ) (p : proper registers ≡ true) 
 
   pub read_past : 516 ≤ address → (made : ℕ) → 0 ≡ read (card_of registers made) address
   read_past h made = sym (get_or-eq_default registers 0 (rw (long registers p) h)) ∙ read_within made
-
--- ---- the test of bytes
-module _ (registers : List ℕ) where
-  pub of_another_length : (length registers ≡ 516 → ⊥) → false ≡ proper registers
-  unfolding proper
-  of_another_length h = rw (ne_eqb (length registers) 516 h) refl
-
-  pub with_a_command : length registers ≡ 516 → (get_or registers 0 0 ≡ 0 → ⊥) → false ≡ proper registers
-  unfolding proper
-  with_a_command h c = rw (h, ne_eqb (get_or registers 0 0) 0 c) refl
-
-  pub with_a_flag : length registers ≡ 516 → get_or registers 0 0 ≡ 0 → 1 < get_or registers 3 0 → false ≡ proper registers
-  unfolding proper
-  with_a_flag h c f = rw (h, c, lt-leb (get_or registers 3 0) 1 f) refl
-
-  pub with-a-status
-      : length registers ≡ 516 → get_or registers 0 0 ≡ 0 → get_or registers 3 0 ≤ 1 → get_or registers 1 0 ≤ 2 → true ≡ proper registers
-  unfolding proper
-  with-a-status h c f s = rw (h, c, le-leb (get_or registers 3 0) 1 f, le-leb (get_or registers 1 0) 2 s) refl
-
-  pub by-its-status
-      : length registers ≡ 516 → get_or registers 0 0 ≡ 0 → get_or registers 3 0 ≤ 1 → 2 < get_or registers 1 0 → eqb (get_or registers 1 0) 6 ≡ proper registers
-  unfolding proper
-  by-its-status h c f s = rw (h, c, le-leb (get_or registers 3 0) 1 f, lt-leb (get_or registers 1 0) 2 s) refl

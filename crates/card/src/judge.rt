@@ -1,23 +1,17 @@
 // The block of the registers, at a card's first step.
-ghost use Rattle.std.specs.Prelude.{◌≡◌, ◌≤◌, length};
+ghost use Rattle.std.specs.Prelude.{◌≡◌};
 ghost use Rattle.card.specs.Machine.{searches};
 
-use refusals::number_of;
+use refusals::judge;
 
 // Whether a block is searched: it is not refused, and of family 6.
-pub fn searches(block: &[u8]) -> bool
-    requires { 512 ≤ length block.now }
-    ensures { result ≡ searches block.now }
+pub fn searches(bytes: &[u8]) -> bool
+    ensures { result ≡ searches bytes.now }
 {
-    if number_of(block::refusal(block)) != 0 {
-        return false;
+    match block::refusal(bytes) {
+        Err(_) => false,
+        Ok(block) => {
+            block.family() == 6 && judge(6, block.samples(), &block.arm(), &block.pose()).is_ok()
+        }
     }
-    let family = block::family(block);
-    if family != 6 {
-        return false;
-    }
-    let n = block::samples(block);
-    let arm = block::arm(block);
-    let pose = block::pose(block);
-    number_of(refusals::judge(family, n, &arm, &pose)) == 0
 }

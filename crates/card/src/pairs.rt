@@ -23,8 +23,7 @@ fn t64_count(r_06: Matrix3, p_0t: Vector3, kin: Kinematics, q1: f64) -> usize
 }
 
 // Whether subproblem 6 has answer i at q1.
-fn answered(arm: &[f64], pose: &[f64], q1: f64, i: u8) -> bool
-    requires { (length arm.now ≡ 39) × (length pose.now ≡ 12) }
+fn answered(arm: &[f64; 39], pose: &[f64; 12], q1: f64, i: u8) -> bool
     ensures { result ≡ answered arm.now pose.now q1 i }
 {
     let kin = kinematics::from_numbers(arm);
@@ -35,26 +34,17 @@ fn answered(arm: &[f64], pose: &[f64], q1: f64, i: u8) -> bool
 
 // Whether subproblem 6 has the answer of each of the first pairs: of a search's own pairs it has, but memory
 // may have been written over.
-pub fn usable(arm: &[f64], pose: &[f64], qs: &[f64], cs: &[u8], pairs: usize) -> bool
-    requires { (length arm.now ≡ 39) × (length pose.now ≡ 12) × (pairs ≤ length qs.now) × (pairs ≤ length cs.now) }
+pub fn usable(arm: &[f64; 39], pose: &[f64; 12], qs: &[f64], cs: &[u8], pairs: usize) -> bool
+    requires { (pairs ≤ length qs.now) × (pairs ≤ length cs.now) }
     ensures { result ≡ usable arm.now pose.now qs.now cs.now pairs }
 {
-    let mut left = pairs;
-    while left > 0 {
-        let k = left - 1;
-        if answered(arm, pose, qs[k], cs[k]) {
-            left = k;
-        } else {
-            return false;
-        }
-    }
-    true
+    (0..pairs).all(|k| answered(arm, pose, qs[k], cs[k]))
 }
 
 // What a search that is over gives: the answers of its pairs go to the two lists.
 pub fn finish(
-    arm: &[f64],
-    pose: &[f64],
+    arm: &[f64; 39],
+    pose: &[f64; 12],
     qs: &[f64],
     cs: &[u8],
     pairs: usize,
@@ -62,7 +52,7 @@ pub fn finish(
     angles: &mut [f64],
     flags: &mut [u8],
 ) -> Solved
-    requires { (length arm.now ≡ 39) × (length pose.now ≡ 12) × (pairs ≤ 17600) × (pairs ≤ length qs.now) × (pairs ≤ length cs.now) × (usable arm.now pose.now qs.now cs.now pairs ≡ true) }
+    requires { (pairs ≤ 17600) × (pairs ≤ length qs.now) × (pairs ≤ length cs.now) × (usable arm.now pose.now qs.now cs.now pairs ≡ true) }
     ensures result { in_numbers result ≡ record { refusal = refusal_9 pairs (room angles.old flags.old); answers = pairs; evals = evals } }
     ensures angles { angles.new ≡ written (pair_answers arm.now pose.now qs.now cs.now pairs) angles.old flags.old }
     ensures flags { flags.new ≡ flagged (pair_answers arm.now pose.now qs.now cs.now pairs) angles.old flags.old }

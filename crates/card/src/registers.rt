@@ -1,4 +1,6 @@
 // The registers: what a write does to them, what a read gives, and the end of a card. `made` is the number of steps made since the start.
+// (That they are proper stands in the contracts and in no type: they are memory that a caller in C lends anew with each call, in the
+// document's bytes, and `proper` is the test at each.)
 ghost use Rattle.std.specs.Prelude.{◌≡◌, true, not, ℕ, ◌+◌, ◌*◌, eqb};
 ghost use Rattle.card.specs.Card.{bit, read, command, write, ended};
 ghost use Rattle.card.specs.Registers.{registers_of, card_of, proper};
@@ -88,20 +90,12 @@ pub fn read(registers: &[u8], address: u64) -> u8
 }
 
 // Whether registers are as calls leave them.
+#[tactic(auto, unfolding(crate::specs::Registers::proper))]
 pub fn proper(registers: &[u8]) -> bool
     ensures { result ≡ proper registers.now }
 {
-    if registers.len() != 516 {
-        return false;
-    }
-    if registers[0] != 0 {
-        return false;
-    }
-    if registers[3] > 1 {
-        return false;
-    }
-    if registers[1] <= 2 {
-        return true;
-    }
-    registers[1] == 6
+    registers.len() == 516
+        && registers[0] == 0
+        && registers[3] <= 1
+        && (registers[1] <= 2 || registers[1] == 6)
 }

@@ -7,6 +7,11 @@ use borrow.Author.Tests.{eq-eqb, ne_eqb}
 use lib.Dec.{eqb}
 use lib.Ieee.{Float}
 use Rattle.block.specs.Block as Block
+use Rattle.refusals.proofs.Outcomes.{number-positive}
+use Rattle.refusals.specs.Refusal.{number, number_of}
+use Rattle.refusals.specs.declared.refusal.Refusal.{Refusal}
+use Rattle.std.proofs.Common.{Result, Ok, Err}
+use Rattle.std.specs.Result.{is_ok}
 use Rattle.refusals.specs.Judge.{judge}
 use Rattle.limits.specs.Limits.{refusal_10}
 use Rattle.solve.specs.Solve.{refused}
@@ -40,11 +45,22 @@ module _ (block : List ℕ) {first : ℕ} (e : first ≡ Block.refusal block) wh
         and-true true = refl
         and-true false = refl
 
-pub returns-then-number_of-ne0 : goal.returns-then-number_of-ne0
-returns-then-number_of-ne0 c = let e = c.number_of.ensures ∙ c.refusal.ensures in search damaged
+no_refusal : {T : Type 0} (r : Result T Refusal) → is_ok r ≡ eqb (number_of r) 0
+no_refusal (Ok x) = refl
+no_refusal (Err e) = sym (ne_eqb (number e) 0 (number-positive e))
 
-pub returns-then-family-ne6 : goal.returns-then-family-ne6
-returns-then-family-ne6 c = let e = c.number_of.ensures ∙ c.refusal.ensures in search other
+pub returns-in-Err : goal.returns-in-Err
+returns-in-Err c = damaged _ c.in-Err.ensures.refusal (number-positive _)
 
-pub returns : goal.returns
-returns c = let e = c.number_of.ensures ∙ c.refusal.ensures in let e' = c.number_of-2.ensures ∙ c.judge.ensures in search judged
+pub returns-then-family-eq6 : goal.returns-then-family-eq6
+returns-then-family-eq6 c =
+    let b = c.in-Ok.ensures.block in
+    let six = sym c.if-family-eq6.true ∙ c.family.ensures in
+    c.is_ok.ensures.value ∙ no_refusal c.judge.result
+    ∙ judged c.args.bytes.now c.in-Ok.ensures.refusal refl (rw b at six) refl (rw b at c.samples.ensures) (rw b at c.arm.ensures) (rw b at c.pose.ensures) c.judge.ensures
+
+pub returns-else-family-eq6 : goal.returns-else-family-eq6
+returns-else-family-eq6 c =
+    let b = c.in-Ok.ensures.block in
+    let family = c.family.ensures in
+    ne_eqb c.family.result 6 c.if-family-eq6.false ∙ other c.args.bytes.now c.in-Ok.ensures.refusal refl (rw b at family) c.if-family-eq6.false
