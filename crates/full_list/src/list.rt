@@ -1,15 +1,16 @@
 // The full list, however it is kept.
 ghost use Rattle.std.specs.Prelude.{◌≡◌, ◌≤◌, ◌<◌, length, get_or};
 ghost use Rattle.answers.specs.Written.{Wrote};
-ghost use Rattle.limits.specs.Limits.{TwelveOrNone, allowed};
+ghost use Rattle.limits.specs.Limits.{allowed};
 ghost use Rattle.full_list.specs.Task.{for_search};
 ghost use Rattle.full_list.specs.Listed.{listed, evaluated, blank, of_pairs, ListOf};
 
 use crate::found::without_search;
 use crate::pairs::Pairs;
 use crate::task::Task;
-use answers::Answer;
+use answers::{Answer, rest};
 use arrayvec::ArrayVec;
+use limits::Limits;
 use refusals::Family;
 
 // The answers of families 1 to 5, or the pairs that family 6 found.
@@ -83,13 +84,16 @@ impl FullList<'_> {
     }
 
     // Writes the answers that are inside the limits, where they fit both lists, and counts them.
-    pub fn write_allowed(&self, limits: &[f64], angles: &mut [f64], flags: &mut [u8]) -> usize
-        requires { TwelveOrNone limits.now }
-        ensures { Wrote (allowed limits.now (listed self.now)) angles.old flags.old angles.new flags.new result }
+    pub fn write_allowed(&self, limits: Limits, angles: &mut [f64], flags: &mut [u8]) -> usize
+        ensures { Wrote (allowed limits.entry.stops.now (listed self.now)) angles.old flags.old angles.new flags.new result }
     {
-        match self {
-            FullList::Found(found) => limits::write_allowed(found, limits, angles, flags),
-            FullList::Searched(pairs) => pairs.write_allowed(limits, angles, flags),
+        let mut count = 0;
+        for k in 0..self.len() {
+            let q = self.answer(k);
+            let at = rest(6 * count, angles.len());
+            let on = rest(count, flags.len());
+            count += limits.put(q, &mut angles[at..], &mut flags[on..]);
         }
+        count
     }
 }

@@ -3,7 +3,7 @@ ghost use Rattle.std.specs.Prelude.{◌≡◌, ◌≤◌, length};
 ghost use Rattle.family6.specs.Kept.{Usable};
 
 use crate::task::{TOLERANCE, Task};
-use answers::{Answer, rest};
+use answers::Answer;
 
 // The angles and the components of the pairs of a task, and how often the search's error was evaluated.
 #[derive(Clone, Copy)]
@@ -20,8 +20,6 @@ pub struct Pairs<'a> {
 
 impl Pairs<'_> {
     ghost use Rattle.std.specs.Prelude.{◌<◌, get_or};
-    ghost use Rattle.answers.specs.Written.{Wrote};
-    ghost use Rattle.limits.specs.Limits.{TwelveOrNone, allowed};
     ghost use Rattle.full_list.specs.Listed.{blank, of_pairs};
 
     // Answer k, made from its pair.
@@ -39,19 +37,5 @@ impl Pairs<'_> {
             self.angles[k],
             i as usize,
         )
-    }
-    // Writes the answers that are inside the limits, where they fit both lists, and counts them.
-    pub fn write_allowed(&self, limits: &[f64], angles: &mut [f64], flags: &mut [u8]) -> usize
-        requires { TwelveOrNone limits.now }
-        ensures { Wrote (allowed limits.now (of_pairs self.now)) angles.old flags.old angles.new flags.new result }
-    {
-        let mut count = 0;
-        for k in 0..self.angles.len() {
-            let q = self.answer(k);
-            let at = rest(6 * count, angles.len());
-            let on = rest(count, flags.len());
-            count += limits::put_allowed(limits, q, &mut angles[at..], &mut flags[on..]);
-        }
-        count
     }
 }

@@ -1,11 +1,9 @@
 // Joint limits: twelve numbers, low then high, joint by joint, or none.
 #![tactic(auto)]
 
-ghost use Rattle.std.specs.Prelude.{◌≡◌, not, ◌∷◌, [], ◌≤◌, length};
-ghost use Rattle.std.specs.Float.Ieee.{lt};
+ghost use Rattle.std.specs.Prelude.{◌≡◌, length};
 ghost use Rattle.refusals.specs.Refusal.{number_of};
-ghost use Rattle.answers.specs.Written.{Wrote};
-ghost use Rattle.limits.specs.Limits.{between, all6, TwelveOrNone, inside, allowed, stops_fit, fit, refusal_10};
+ghost use Rattle.limits.specs.Limits.{between, TwelveOrNone, stops_fit, fit, refusal_10};
 
 use answers::Answer;
 use refusals::Refusal;
@@ -16,59 +14,12 @@ fn between(low: f64, q: f64, high: f64) -> bool
     low <= q && q <= high
 }
 
-// Writes those answers of a list that are inside the limits, where they fit both lists, and counts them.
-pub fn write_allowed(
-    found: &[Answer],
-    limits: &[f64],
-    angles: &mut [f64],
-    flags: &mut [u8],
-) -> usize
-    requires { (length found.now ≤ 17600) × TwelveOrNone limits.now }
-    ensures { Wrote (allowed limits.now found.now) angles.old flags.old angles.new flags.new result }
-{
-    let mut count = 0;
-    for &q in found {
-        let at = answers::rest(6 * count, angles.len());
-        let on = answers::rest(count, flags.len());
-        count += put_allowed(limits, q, &mut angles[at..], &mut flags[on..]);
-    }
-    count
-}
-
 // Whether both are finite and the low is not above the high.
 #[tactic(auto, unfolding(crate::specs::Limits::stops_fit))]
 fn stops_fit(low: f64, high: f64) -> bool
     ensures { result ≡ stops_fit low high }
 {
     float::is_finite(low) && float::is_finite(high) && !(high < low)
-}
-
-// Whether an answer is inside the limits, of which there are twelve or none.
-#[tactic(auto, unfolding(crate::specs::Limits::inside))]
-pub fn inside(limits: &[f64], q: Answer) -> bool
-    requires { TwelveOrNone limits.now }
-    ensures { result ≡ inside limits.now q }
-{
-    limits.is_empty()
-        || between(limits[0], q.q1, limits[1])
-            && between(limits[2], q.q2, limits[3])
-            && between(limits[4], q.q3, limits[5])
-            && between(limits[6], q.q4, limits[7])
-            && between(limits[8], q.q5, limits[9])
-            && between(limits[10], q.q6, limits[11])
-}
-
-// Writes an answer to the start of the rest of the lists, where it is inside the limits and fits
-// both. The result is the number of answers that stay: one or none.
-pub fn put_allowed(limits: &[f64], q: Answer, angles: &mut [f64], flags: &mut [u8]) -> usize
-    requires { TwelveOrNone limits.now }
-    ensures { Wrote (allowed limits.now (q ∷ [])) angles.old flags.old angles.new flags.new result }
-{
-    if inside(limits, q) {
-        answers::put(q, angles, flags)
-    } else {
-        0
-    }
 }
 
 // Whether each joint's two fit.
@@ -88,5 +39,62 @@ pub fn refusal_10(limits: &[f64]) -> Result<(), Refusal>
         Ok(())
     } else {
         Err(Refusal::Limits)
+    }
+}
+
+// Limits that are not refused.
+#[derive(Clone, Copy)]
+pub struct Limits<'a> {
+    pub stops: &'a [f64],
+    pub ghost twelve_or_none: { TwelveOrNone stops.now },
+}
+
+impl<'a> Limits<'a> {
+    ghost use Rattle.std.specs.Prelude.{IfOk, ◌∷◌, []};
+    ghost use Rattle.answers.specs.Written.{Wrote};
+    ghost use Rattle.limits.specs.Limits.{inside, allowed};
+
+    // The limits that are lent, or refusal 10.
+    #[tactic(auto, using(crate::proofs::Laws::twelve_or_none, refusals::proofs::Outcomes::passed_on))]
+    pub fn new(stops: &'a [f64]) -> Result<Limits<'a>, Refusal>
+        ensures refused { number_of result ≡ refusal_10 stops.now }
+        ensures limits { IfOk result (λ limits. limits.stops.now ≡ stops.now) }
+    {
+        refusal_10(stops)?;
+        Ok(Limits { stops })
+    }
+
+    // No limits.
+    pub fn none() -> Limits<'a>
+        ensures { result.stops.now ≡ [] }
+    {
+        Limits { stops: &[] }
+    }
+
+    // Whether an answer is inside.
+    #[tactic(auto, unfolding(crate::specs::Limits::inside))]
+    pub fn inside(self, q: Answer) -> bool
+        ensures { result ≡ inside self.entry.stops.now q }
+    {
+        let stops = self.stops;
+        stops.is_empty()
+            || between(stops[0], q.q1, stops[1])
+                && between(stops[2], q.q2, stops[3])
+                && between(stops[4], q.q3, stops[5])
+                && between(stops[6], q.q4, stops[7])
+                && between(stops[8], q.q5, stops[9])
+                && between(stops[10], q.q6, stops[11])
+    }
+
+    // Writes an answer to the start of the rest of the lists, where it is inside and fits both. The
+    // result is the number of answers that stay: one or none.
+    pub fn put(self, q: Answer, angles: &mut [f64], flags: &mut [u8]) -> usize
+        ensures { Wrote (allowed self.entry.stops.now (q ∷ [])) angles.old flags.old angles.new flags.new result }
+    {
+        if self.inside(q) {
+            answers::put(q, angles, flags)
+        } else {
+            0
+        }
     }
 }

@@ -43,16 +43,17 @@ module _ (family n : ℕ) (arm pose limits : List Float) where
         member = λ y. absurd (number-positive refusal y);
       })
 
-  pub gives : {m : Option Answer} {r : Result Answer Refusal} {f : Full}
+  pub gives : {m : Option Answer} {r : Result Answer Refusal} {f : Full} {stops : List Float}
       → 0 ≡ refused family n arm pose limits
       → f ≡ full family n arm pose limits
-      → m ≡ first_allowed limits f.answers
+      → stops ≡ limits
+      → m ≡ first_allowed stops f.answers
       → r ≡ or_none m
       → Gives family n arm pose limits (one_of r)
   unfolding one_refusal first_allowed
-  gives {m} z e-f e-m e-r =
+  gives {m} z e-f e-s e-m e-r =
       let all = answers family n arm pose limits in
-      let is-head : m ≡ head all = e-m ∙ ap (λ (x : Full). head (allowed limits x.answers)) e-f in
+      let is-head : m ≡ head all = (rw e-s at e-m) ∙ ap (λ (x : Full). head (allowed limits x.answers)) e-f in
       let c : Chosen all (one_of (or_none m)) = rw is-head (chosen all) in
       let t = eq-eqb (refused family n arm pose limits) 0 (sym z) in
       rw e-r (record {

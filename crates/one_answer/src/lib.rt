@@ -2,7 +2,6 @@
 #![tactic(auto)]
 
 ghost use Rattle.std.specs.Prelude.{◌≡◌};
-ghost use Rattle.limits.specs.Limits.{TwelveOrNone};
 ghost use Rattle.full_list.specs.Task.{of_task};
 ghost use Rattle.full_list.specs.Listed.{listed};
 ghost use Rattle.one_answer.specs.OneAnswer.{one_of, Gives};
@@ -10,16 +9,16 @@ ghost use Rattle.one_answer.specs.First.{first_allowed};
 
 use answers::Answer;
 use full_list::{FullList, Task};
-use refusals::{Family, Refusal};
+use limits::Limits;
+use refusals::Refusal;
 
 // The first answer of a full list that is inside the limits. Those behind it are not made.
-fn first_allowed(list: &FullList, limits: &[f64]) -> Option<Answer>
-    requires { TwelveOrNone limits.now }
-    ensures { result ≡ first_allowed limits.now (listed list.now) }
+fn first_allowed(list: &FullList, limits: Limits) -> Option<Answer>
+    ensures { result ≡ first_allowed limits.entry.stops.now (listed list.now) }
 {
     for k in 0..list.len() {
         let q = list.answer(k);
-        if limits::inside(limits, q) {
+        if limits.inside(q) {
             return Some(q);
         }
     }
@@ -27,22 +26,10 @@ fn first_allowed(list: &FullList, limits: &[f64]) -> Option<Answer>
 }
 
 // The first answer of a task that is inside the limits.
-fn find_one(task: &Task, limits: &[f64]) -> Option<Answer>
-    requires { TwelveOrNone limits.now }
-    ensures { result ≡ first_allowed limits.now (of_task task.now).answers }
+fn find_one(task: &Task, limits: Limits) -> Option<Answer>
+    ensures { result ≡ first_allowed limits.entry.stops.now (of_task task.now).answers }
 {
-    match task.family {
-        Family::TwoParallel => {
-            let mut qs = [0.0; 17600];
-            let mut cs = [0u8; 17600];
-            let pairs = full_list::search(task, &mut qs, &mut cs);
-            first_allowed(&FullList::Searched(pairs), limits)
-        }
-        _ => {
-            let found = full_list::without_search(task);
-            first_allowed(&FullList::Found(found), limits)
-        }
-    }
+    full_list::with_list(task, &mut |list| first_allowed(list, limits))
 }
 
 // Refusals 10, 4 to 8 and, where no answer is inside the limits, 12; else an answer.
@@ -55,7 +42,7 @@ pub fn solve_one(
 ) -> Result<Answer, Refusal>
     ensures { Gives family n arm.now pose.now limits.now (one_of result) }
 {
-    let task = solve::judged(family, n, arm, pose, limits)?;
+    let (task, limits) = solve::judged(family, n, arm, pose, limits)?;
     find_one(&task, limits).ok_or(Refusal::NoneAllowed)
 }
 

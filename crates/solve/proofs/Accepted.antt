@@ -13,8 +13,7 @@ use Rattle.std.proofs.lemmas.Grind.{common_steps}
 use Rattle.refusals.specs.Family.{family_number, family_of}
 use Rattle.refusals.specs.declared.family.Family.{Family}
 use Rattle.refusals.specs.Judge.{known, samples_fit, all_finite, judge}
-use Rattle.limits.specs.Limits.{TwelveOrNone, refusal_10}
-use Rattle.limits.proofs.Laws.{twelve_or_none}
+use Rattle.limits.specs.Limits.{refusal_10}
 use Rattle.full_list.specs.Full.{of_numbers}
 use Rattle.full_list.specs.Task.{task_of, of_task}
 use Rattle.full_list.specs.declared.task.Task.{Task}
@@ -73,9 +72,6 @@ module _ (family n : ℕ) (arm pose limits : List Float) (e : 0 ≡ refused fami
 
   pub accepted_numbers : 0 ≡ judge family n arm pose
   accepted_numbers = both_accepted.1
-
-  pub accepted_limits : TwelveOrNone limits
-  accepted_limits = twelve_or_none limits both_accepted.0
 
 -- the family of a number
 pub named : (number : ℕ) (family : Family) → family_of number ≡ Ok family → family_number family ≡ number

@@ -3,16 +3,17 @@
 // n, slices of any length, any numbers.
 #![tactic(auto)]
 
-ghost use Rattle.std.specs.Prelude.{◌≡◌, min, IfOk, OnOk, length};
+ghost use Rattle.std.specs.Prelude.{◌≡◌, min, IfOk, length};
 ghost use Rattle.answers.specs.Written.{room, written, flagged};
 ghost use Rattle.refusals.specs.Refusal.{number, number_of};
-ghost use Rattle.limits.specs.Limits.{TwelveOrNone, allowed};
+ghost use Rattle.limits.specs.Limits.{allowed};
 ghost use Rattle.full_list.specs.Task.{of_task};
 ghost use Rattle.full_list.specs.Listed.{listed, evaluated};
 ghost use Rattle.solve.specs.Solve.{refused, full, answers, solve};
 ghost use Rattle.solve.specs.InNumbers.{in_numbers, refuses, gives};
 
 use full_list::{FullList, Task};
+use limits::Limits;
 use refusals::{Family, Refusal, judge, refusal_9};
 
 // What a call gives: whether it is refused, the number of answers inside the limits, and the number of
@@ -24,22 +25,23 @@ pub struct Solved {
     pub evals: u64,
 }
 
-// What there is to solve, where none of refusals 10 and 4 to 8 applies; else the first.
-pub fn judged(
+// What there is to solve, and the limits, where none of refusals 10 and 4 to 8 applies; else the first.
+pub fn judged<'a>(
     family: u64,
     n: u64,
     arm: &[f64],
     pose: &[f64],
-    limits: &[f64],
-) -> Result<Task, Refusal>
+    limits: &'a [f64],
+) -> Result<(Task, Limits<'a>), Refusal>
     ensures refused { number_of result ≡ refused family n arm.now pose.now limits.now }
-    ensures task { IfOk result (λ task. of_task task ≡ full family n arm.now pose.now limits.now) }
-    ensures limits { OnOk result (TwelveOrNone limits.now) }
+    ensures task { IfOk result (λ given. of_task given.0 ≡ full family n arm.now pose.now limits.now) }
+    ensures limits { IfOk result (λ given. given.1.stops.now ≡ limits.now) }
 {
-    limits::refusal_10(limits)?;
+    let limits = Limits::new(limits)?;
     judge(family, n, arm, pose)?;
     let known = Family::new(family)?;
-    Ok(Task::new(known, n, arm, pose))
+    let task = Task::new(known, n, arm, pose);
+    Ok((task, limits))
 }
 
 // What a call gives that was refused before it solved.
@@ -66,11 +68,10 @@ pub fn given(answers: usize, evals: u64, sixes: usize, bytes: usize) -> Solved
 
 // Writes the answers of a list that are inside the limits.
 #[tactic(auto, unfolding(answers::specs::Rows::room_of))]
-fn write(list: &FullList, limits: &[f64], angles: &mut [f64], flags: &mut [u8]) -> Solved
-    requires { TwelveOrNone limits.now }
-    ensures result { in_numbers result ≡ gives (length (allowed limits.now (listed list.now))) (evaluated list.now) (room angles.old flags.old) }
-    ensures angles { angles.new ≡ written (allowed limits.now (listed list.now)) angles.old flags.old }
-    ensures flags { flags.new ≡ flagged (allowed limits.now (listed list.now)) angles.old flags.old }
+fn write(list: &FullList, limits: Limits, angles: &mut [f64], flags: &mut [u8]) -> Solved
+    ensures result { in_numbers result ≡ gives (length (allowed limits.entry.stops.now (listed list.now))) (evaluated list.now) (room angles.old flags.old) }
+    ensures angles { angles.new ≡ written (allowed limits.entry.stops.now (listed list.now)) angles.old flags.old }
+    ensures flags { flags.new ≡ flagged (allowed limits.entry.stops.now (listed list.now)) angles.old flags.old }
 {
     let sixes = angles.len() / 6;
     let bytes = flags.len();
@@ -91,20 +92,9 @@ pub fn solve(
     ensures angles { angles.new ≡ written (answers family n arm.now pose.now limits.now) angles.old flags.old }
     ensures flags { flags.new ≡ flagged (answers family n arm.now pose.now limits.now) angles.old flags.old }
 {
-    let task = match judged(family, n, arm, pose, limits) {
-        Ok(task) => task,
+    let (task, limits) = match judged(family, n, arm, pose, limits) {
+        Ok(given) => given,
         Err(refusal) => return refuse(refusal),
     };
-    match task.family {
-        Family::TwoParallel => {
-            let mut qs = [0.0; 17600];
-            let mut cs = [0u8; 17600];
-            let pairs = full_list::search(&task, &mut qs, &mut cs);
-            write(&FullList::Searched(pairs), limits, angles, flags)
-        }
-        _ => {
-            let found = full_list::without_search(&task);
-            write(&FullList::Found(found), limits, angles, flags)
-        }
-    }
+    full_list::with_list(&task, &mut |list| write(list, limits, angles, flags))
 }

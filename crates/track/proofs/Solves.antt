@@ -7,14 +7,15 @@ use borrow.Author.Tests.{eq-eqb, ne_eqb}
 use lib.Ieee.{Float}
 use lib.ListN.{length}
 use Rattle.std.proofs.Common.{Ok}
-use Rattle.answers.specs.declared.Answer.{Answer}
 use Rattle.answers.specs.Rows.{Form, room_of, written_of, flagged_of}
 use Rattle.refusals.specs.Family.{family_of}
 use Rattle.refusals.specs.Judge.{all_finite}
 use Rattle.refusals.specs.declared.family.Family.{Family}
 use Rattle.full_list.specs.Full.{no_search}
 use Rattle.full_list.specs.Task.{task_of, of_task}
+use Rattle.full_list.specs.Listed.{listed, evaluated, ListOf}
 use Rattle.full_list.specs.declared.task.Task.{Task}
+use Rattle.full_list.specs.declared.list.FullList.{FullList}
 use Rattle.solve.specs.InNumbers.{refuses, gives}
 use Rattle.solve.proofs.Accepted.{named}
 use Rattle.track.specs.Sevens.{sevens}
@@ -23,15 +24,16 @@ use Rattle.track.specs.Track.{track_judge, track_refused, track_full, track_answ
 use Rattle.track.proofs.SevenRows.{none_written}
 
 -- what is written of the arm that is left
-pub left-result : (t : Task) {all : List Answer} {evals : ℕ} → all ≡ (of_task t).answers → evals ≡ (of_task t).evals → (room : ℕ) → gives (length all) evals room ≡ solve_left t room
-unfolding solve_left
-left-result t a v room = rw (a, v) refl
+module _ (t : Task) {list : FullList} (l : ListOf t list) where
+  pub left-result : (room : ℕ) → gives (length (listed list)) (evaluated list) room ≡ solve_left t room
+  unfolding solve_left
+  left-result room = rw (l.all, l.counted) refl
 
-pub same_written : (form : Form) {all all' : List Answer} → all ≡ all' → (a : List Float) (f : List ℕ) → written_of form all a f ≡ written_of form all' a f
-same_written form e a f = rw e refl
+  pub left-angles : (form : Form) (a : List Float) (f : List ℕ) → written_of form (listed list) a f ≡ written_of form (of_task t).answers a f
+  left-angles form a f = rw l.all refl
 
-pub same_flagged : (form : Form) {all all' : List Answer} → all ≡ all' → (a : List Float) (f : List ℕ) → flagged_of form all a f ≡ flagged_of form all' a f
-same_flagged form e a f = rw e refl
+  pub left-flags : (form : Form) (a : List Float) (f : List ℕ) → flagged_of form (listed list) a f ≡ flagged_of form (of_task t).answers a f
+  left-flags form a f = rw l.all refl
 
 module _ (family n : ℕ) (arm : List Float) (joint : ℕ) (angle : Float) (pose : List Float) where
   -- a refusal, whatever joint: no list is long enough to be written to

@@ -25,6 +25,7 @@ use solve::{Solved, given, refuse};
 struct Locked {
     joint: usize,
     angle: f64,
+    ghost seven_joints: { joint ≤ 6 },
 }
 
 fn lockable(joint: u64, angle: f64) -> bool
@@ -80,7 +81,6 @@ fn judged(
 
 // Writes the answers of a full list as sevens, where they fit both lists, and counts them.
 fn write_sevens(list: &FullList, lock: Locked, angles: &mut [f64], flags: &mut [u8]) -> usize
-    requires { lock.joint ≤ 6 }
     ensures { WroteOf (sevens lock.joint lock.angle) (listed list.now) angles.old flags.old angles.new flags.new result }
 {
     let mut count = 0;
@@ -102,7 +102,6 @@ fn write_sevens(list: &FullList, lock: Locked, angles: &mut [f64], flags: &mut [
 // The same, and what the call then gives.
 #[tactic(auto, unfolding(answers::specs::Rows::room_of))]
 fn write_left(list: &FullList, lock: Locked, angles: &mut [f64], flags: &mut [u8]) -> Solved
-    requires { lock.joint ≤ 6 }
     ensures result { in_numbers result ≡ gives (length (listed list.now)) (evaluated list.now) (room_of (sevens lock.joint lock.angle) angles.old flags.old) }
     ensures angles { angles.new ≡ written_of (sevens lock.joint lock.angle) (listed list.now) angles.old flags.old }
     ensures flags { flags.new ≡ flagged_of (sevens lock.joint lock.angle) (listed list.now) angles.old flags.old }
@@ -115,23 +114,11 @@ fn write_left(list: &FullList, lock: Locked, angles: &mut [f64], flags: &mut [u8
 
 // Solves the arm that is left, which is not refused, and writes its answers as sevens.
 fn solve_left(task: &Task, lock: Locked, angles: &mut [f64], flags: &mut [u8]) -> Solved
-    requires { lock.joint ≤ 6 }
     ensures result { in_numbers result ≡ solve_left task.now (room_of (sevens lock.joint lock.angle) angles.old flags.old) }
     ensures angles { angles.new ≡ written_of (sevens lock.joint lock.angle) (of_task task.now).answers angles.old flags.old }
     ensures flags { flags.new ≡ flagged_of (sevens lock.joint lock.angle) (of_task task.now).answers angles.old flags.old }
 {
-    match task.family {
-        Family::TwoParallel => {
-            let mut qs = [0.0; 17600];
-            let mut cs = [0u8; 17600];
-            let pairs = full_list::search(task, &mut qs, &mut cs);
-            write_left(&FullList::Searched(pairs), lock, angles, flags)
-        }
-        _ => {
-            let found = full_list::without_search(task);
-            write_left(&FullList::Found(found), lock, angles, flags)
-        }
-    }
+    full_list::with_list(task, &mut |list| write_left(list, lock, angles, flags))
 }
 
 pub fn solve_track(

@@ -17,4 +17,4 @@ pub loop-k-preserved : goal.loop-k-preserved
 loop-k-preserved c = Firsts.on _ _ _ c.loop-k.invariant blank (omega (arith, c.len-k-end.ensures.len)) c.answer-q.ensures c.inside.ensures c.if-inside.false
 
 pub returns : goal.returns
-returns c = Firsts.none c.args.limits.now (listed c.args.list.now) c.loop-k.k c.loop-k.invariant (omega (arith, c.len-k-end.ensures.len))
+returns c = Firsts.none c.args.limits.stops.now (listed c.args.list.now) c.loop-k.k c.loop-k.invariant (omega (arith, c.len-k-end.ensures.len))

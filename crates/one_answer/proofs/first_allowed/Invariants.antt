@@ -5,4 +5,4 @@ use Rattle.one_answer.specs.First.{first_allowed}
 use Rattle.one_answer.proofs.first_allowed.Given as goal
 
 abbrev pub invariant-loop-k : goal.invariant-loop-k
-invariant-loop-k l = first_allowed l.limits (drop l.k (listed l.list)) ≡ first_allowed l.limits (listed l.list)
+invariant-loop-k l = first_allowed l.limits.stops.now (drop l.k (listed l.list)) ≡ first_allowed l.limits.stops.now (listed l.list)

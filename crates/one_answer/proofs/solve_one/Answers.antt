@@ -9,4 +9,4 @@ returns-in_err-task c =
     by_refusal _ _ _ _ _ p.0 p.1 (rw p.2 c.in_err-task.ensures.refused)
 
 pub returns : goal.returns
-returns c = gives _ _ _ _ _ c.in_ok-task.ensures.refused c.in_ok-task.ensures.task c.find_one.ensures c.ok_or.ensures.value
+returns c = gives _ _ _ _ _ c.in_ok-task.ensures.refused c.in_ok-task.ensures.task c.in_ok-task.ensures.limits c.find_one.ensures c.ok_or.ensures.value

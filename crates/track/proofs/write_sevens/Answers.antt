@@ -7,7 +7,7 @@ use Rattle.track.proofs.SevenRows.{seven_good, one, one_few, ones}
 use Rattle.track.proofs.write_sevens.Goals as goal
 
 pub loop-k-init : goal.loop-k-init
-loop-k-init c = start_long _ (seven_good _ _ c.requires) one _ _ _ _ _ c.len-k-end.ensures.len c.len-k-end.ensures.few
+loop-k-init c = start_long _ (seven_good _ _ c.args.lock.seven_joints) one _ _ _ _ _ c.len-k-end.ensures.len c.len-k-end.ensures.few
 
 pub answer-q-requires : goal.answer-q-requires
 answer-q-requires c = omega (arith, c.len-k-end.ensures.len)
@@ -19,7 +19,7 @@ overflow_add-count c =
 
 pub loop-k-preserved : goal.loop-k-preserved
 loop-k-preserved c =
-    again _ (seven_good _ _ c.requires) one _ blank _ _ one_few c.loop-k.invariant c.loop-k-test.true c.answer-q.ensures c.rest-at.ensures c.rest-on.ensures c.put_seven-count.ensures
+    again _ (seven_good _ _ c.args.lock.seven_joints) one _ blank _ _ one_few c.loop-k.invariant c.loop-k-test.true c.answer-q.ensures c.rest-at.ensures c.rest-on.ensures c.put_seven-count.ensures
 
 pub returns : goal.returns
-returns c = by_name _ (seven_good _ _ c.requires) (ones _) (end _ (seven_good _ _ c.requires) one _ _ _ c.loop-k-test.false c.loop-k.invariant)
+returns c = by_name _ (seven_good _ _ c.args.lock.seven_joints) (ones _) (end _ (seven_good _ _ c.args.lock.seven_joints) one _ _ _ c.loop-k-test.false c.loop-k.invariant)

@@ -1,4 +1,4 @@
--- `put_allowed`: written where it is inside.
+-- Written where it is inside.
 use Prim.Native.Nat.{ℕ}
 use mathlib.Core.Path.{◌≡◌}
 use mathlib.Core.Bool.{Bool, true, false}
@@ -9,7 +9,7 @@ use Rattle.answers.specs.declared.Answer.{Answer}
 use Rattle.answers.proofs.Laws.{by_name, nothing}
 use Rattle.limits.specs.Limits.{inside, allowed}
 use Rattle.limits.proofs.Filter.{one_stays, one_leaves}
-use Rattle.limits.proofs.put_allowed.Goals as goal
+use Rattle.limits.proofs.Limits.put.Goals as goal
 
 module _ (limits : List Float) (q : Answer) (a : List Float) (f : List ℕ) {t : Bool} (e : t ≡ inside limits q) where
   stays : {a' : List Float} {f' : List ℕ} {r : ℕ} → t ≡ true → Wrote (q ∷ []) a f a' f' r → Wrote (allowed limits (q ∷ [])) a f a' f' r
