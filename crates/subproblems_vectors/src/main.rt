@@ -23,26 +23,16 @@ const NAMES: [&str; 10] = [
 // The place of the first result.
 const RESULTS: usize = 41;
 
-fn arguments(bytes: &[u8; 512]) -> [f64; 40] {
-    let mut args = [0.0; 40];
-    cases::numbers(bytes, 1, &mut args);
-    args
-}
-
-fn gives(bytes: &[u8; 512], out: &[u64; 23]) -> bool {
-    cases::agree(bytes, RESULTS, out)
-}
-
 // No function has the number 0.
 fn agrees(bytes: &[u8; 512], id: u64) -> bool {
-    let args = arguments(bytes);
+    let args = cases::array_of(bytes, 1);
     let mut out = [0u64; 23];
     match id {
         0 => return false,
         10 => calls_c::bench_reduced_solutionset(cases::word(bytes, 1), &args, &mut out),
         _ => calls_c::bench_subproblem(id, &args, &mut out),
     }
-    gives(bytes, &out)
+    cases::agree(bytes, RESULTS, &out)
 }
 
 fn main(rt: HostRuntime) -> io::Result<()> {
