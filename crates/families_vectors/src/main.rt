@@ -40,120 +40,90 @@ const ROOM: usize = 9;
 
 const LONG: usize = 54;
 
-fn arm(bytes: &[u8; 896]) -> [f64; 39] {
-    let mut xs = [0.0; 39];
-    cases::numbers(bytes, ARM, &mut xs);
-    xs
+// Whether an answer is the record's: six angles and a flag.
+fn given(record: &[u8; 56], angles: &[f64; 6], flag: u8) -> bool {
+    let is_flag = cases::word(record, 6) == u64::from(flag);
+    is_flag && cases::agree(record, 0, &angles.map(cases::pattern))
 }
 
-fn pose(bytes: &[u8; 896]) -> [f64; 12] {
-    let mut xs = [0.0; 12];
-    cases::numbers(bytes, POSE, &mut xs);
-    xs
-}
-
-// Whether the angles from i on are those of a record from word `at` on.
-fn given_angles(bytes: &[u8; 896], at: usize, angles: &[f64; 54], i: usize) -> bool
-    requires { (at ≤ 106) × (i ≤ 48) }
-{
-    for k in 0..6 {
-        if !cases::gives(bytes, at + k, angles[i + k]) {
+// Whether these answers are the record's first ones.
+fn all_given(bytes: &[u8; 896], angles: &[f64], flags: &[u8]) -> bool {
+    let (records, _) = bytes[8 * ANSWERS..].as_chunks::<56>();
+    let (answers, _) = angles.as_chunks::<6>();
+    for ((record, six), flag) in records.iter().zip(answers).zip(flags) {
+        if !given(record, six, *flag) {
             return false;
         }
     }
     true
 }
 
-// Whether answer k of the lists is the record's.
-fn given(bytes: &[u8; 896], angles: &[f64; 54], flags: &[u8; 9], k: usize) -> bool
-    requires { k ≤ 7 }
-{
-    let at = ANSWERS + 7 * k;
-    let is_flag = cases::word(bytes, at + 6) == u64::from(flags[k]);
-    is_flag && given_angles(bytes, at, angles, 6 * k)
+// Whether these parts of the lists are as they were.
+fn unwritten(angles: &[f64], flags: &[u8]) -> bool {
+    angles.iter().all(|x| *x == NO_ANGLE) && flags.iter().all(|f| *f == NO_FLAG)
 }
 
-// Whether place k of the lists is as it was.
-fn unwritten(angles: &[f64; 54], flags: &[u8; 9], k: usize) -> bool
-    requires { k ≤ 8 }
-{
-    let from = 6 * k;
-    flags[k] == NO_FLAG && angles[from..from + 6].iter().all(|x| *x == NO_ANGLE)
-}
-
-// Whether place k of the lists is right, where the first n are answers.
-fn right(bytes: &[u8; 896], angles: &[f64; 54], flags: &[u8; 9], n: usize, k: usize) -> bool
-    requires { k ≤ 7 }
-{
-    if k < n {
-        return given(bytes, angles, flags, k);
-    }
-    unwritten(angles, flags, k)
-}
-
-fn all_right(bytes: &[u8; 896], angles: &[f64; 54], flags: &[u8; 9], n: usize) -> bool {
-    for k in 0..8 {
-        if !right(bytes, angles, flags, n, k) {
-            return false;
-        }
-    }
-    unwritten(angles, flags, 8)
-}
-
-// Solves with lists of a numbers and b bytes.
-fn solved(
-    bytes: &[u8; 896],
+// A record's family, arm and pose, and how many answers it has.
+#[derive(Drop)]
+struct Case<'a> {
+    bytes: &'a [u8; 896],
     id: u64,
-    arm: &[f64; 39],
-    pose: &[f64; 12],
+    arm: [f64; 39],
+    pose: [f64; 12],
     count: usize,
-    a: usize,
-    b: usize,
-) -> bool
-    requires { (a ≤ 54) × (b ≤ 9) }
-{
-    let mut angles = [NO_ANGLE; 54];
-    let mut flags = [NO_FLAG; 9];
-    let n = calls_c::family(id, arm, pose, &mut angles[0..a], &mut flags[0..b]);
-    let is_n = n == count;
-    is_n && all_right(bytes, &angles, &flags, count.min(b).min(a / 6))
+    ghost few: { count ≤ 8 },
 }
 
-// The lists are too short for the last answer, and the longer one is whole.
-fn short(
-    bytes: &[u8; 896],
-    id: u64,
-    arm: &[f64; 39],
-    pose: &[f64; 12],
-    count: usize,
-    n: usize,
-) -> bool
-    requires { n ≤ 7 }
-{
-    let in_angles = solved(bytes, id, arm, pose, count, 6 * n + 5, ROOM);
-    let in_flags = solved(bytes, id, arm, pose, count, LONG, n);
-    in_angles && in_flags
-}
+impl Case<'_> {
+    // Solves with lists of a numbers and b bytes.
+    fn solved(&self, a: usize, b: usize) -> bool
+        requires { (a ≤ 54) × (b ≤ 9) }
+    {
+        let mut angles = [NO_ANGLE; LONG];
+        let mut flags = [NO_FLAG; ROOM];
+        let n = calls_c::family(
+            self.id,
+            &self.arm,
+            &self.pose,
+            &mut angles[..a],
+            &mut flags[..b],
+        );
+        let fit = self.count.min(b).min(a / 6);
+        n == self.count
+            && all_given(self.bytes, &angles[..6 * fit], &flags[..fit])
+            && unwritten(&angles[6 * fit..], &flags[fit..])
+    }
 
-fn agrees_by(bytes: &[u8; 896], id: u64, arm: &[f64; 39], pose: &[f64; 12], n: usize) -> bool
-    requires { n ≤ 8 }
-{
-    let whole = solved(bytes, id, arm, pose, n, LONG, ROOM);
-    let exact = solved(bytes, id, arm, pose, n, 6 * n, n);
-    let none = short(bytes, id, arm, pose, n, 0);
-    let one = short(bytes, id, arm, pose, n, 1);
-    let last = short(bytes, id, arm, pose, n, n.saturating_sub(1));
-    whole && exact && none && one && last
+    // The angles have room for n answers and almost one more, and then the flags for n: the other list is whole.
+    fn short(&self, n: usize) -> bool
+        requires { n ≤ 7 }
+    {
+        self.solved(6 * n + 5, ROOM) && self.solved(LONG, n)
+    }
+
+    fn agrees(&self) -> bool {
+        let n = self.count;
+        self.solved(LONG, ROOM)
+            && self.solved(6 * n, n)
+            && self.short(0)
+            && self.short(1)
+            && self.short(n.saturating_sub(1))
+    }
 }
 
 fn agrees(bytes: &[u8; 896], id: u64) -> bool {
-    let from = arm(bytes);
-    let to = pose(bytes);
     let count = cases::word(bytes, COUNT);
     if count > 8 {
         return false;
     }
-    agrees_by(bytes, id, &from, &to, count as usize)
+    let case = Case {
+        bytes,
+        id,
+        arm: cases::array_of(bytes, ARM),
+        pose: cases::array_of(bytes, POSE),
+        count: count as usize,
+    };
+    case.agrees()
 }
 
 fn main(rt: HostRuntime) -> io::Result<()> {
