@@ -172,7 +172,7 @@ map-reverse g (a ∷ l) =
     ∙ sym (reverse-append (g a ∷ []) (map g l))
 
 -- a row that the code holds is scanned as the definition's list
-points_are : (l : List DeclaredPoint.Point) → points l ≡ row_at (map point_of l)
+pub points_are : (l : List DeclaredPoint.Point) → points l ≡ row_at (map point_of l)
 unfolding row_at
 points_are l = λ i k. sym (get_or-map point_of l k (record { x = nan; y = nan })) i
 

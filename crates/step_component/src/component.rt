@@ -4,15 +4,15 @@ ghost use Rattle.search_steps.specs.ComponentSteps as Steps;
 ghost use Rattle.step_refine.specs.Point as DeclaredPoint;
 ghost use Rattle.step_pairs.specs.Landed.{landed, came};
 ghost use Rattle.step_pairs.specs.declared.Found as DeclaredFound;
-ghost use Rattle.step_scan.specs.State.{points};
+ghost use Rattle.search_pairs.specs.Row.{points};
 ghost use Rattle.step_component.specs.State.{component_of, Handy};
 
 use crate::grid::{alike, gap_at, run_length};
 use arrayvec::ArrayVec;
+use search_pairs::Row;
 use step_edge::edge::{Edge, edge_angle, edge_next, edge_way};
 use step_pairs::Found;
 use step_refine::Point;
-use step_scan::row::Row;
 use step_scan::run::Run;
 use step_scan::scan::{Scan, scan_angle, scan_next, scan_way};
 

@@ -3,13 +3,13 @@ ghost use Rattle.std.specs.Prelude.{◌≡◌, ℕ, suc, ◌-◌};
 ghost use Rattle.std.specs.Bool.{beq};
 ghost use Rattle.float.specs.Number.{is_finite};
 ghost use Rattle.search_steps.specs.ComponentSteps as Steps;
-ghost use Rattle.step_scan.specs.State.{points};
+ghost use Rattle.search_pairs.specs.Row.{points};
 ghost use Rattle.step_edge.specs.State.{gap};
 ghost use Rattle.step_component.specs.State.{Ran};
 
 use float::is_finite;
+use search_pairs::Row;
 use step_edge::edge::Gap;
-use step_scan::row::Row;
 
 // Between the samples k and k + 1, of which one is finite.
 pub fn gap_at(grid: Row, k: usize) -> Gap

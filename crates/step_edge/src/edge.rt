@@ -14,9 +14,9 @@ use crate::row::{close_row, whole};
 use arrayvec::ArrayVec;
 pub use search_edge::edge::Gap;
 use search_edge::edge::{keep_finite, sub_angle};
+use search_pairs::Row;
 use step_pairs::Found;
 use step_refine::Point;
-use step_scan::row::Row;
 use step_scan::scan::{Scan, scan_angle, scan_next, scan_way};
 
 // Halves the gap, so many times more; takes a sample of this number from the branch's end on; or scans the row.

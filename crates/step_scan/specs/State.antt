@@ -1,19 +1,16 @@
--- The code's rows, runs and enum of a scan as the machine's.
-use Rattle.std.specs.Prelude.{List, map, ℕ, suc, ◌-◌, length, get_or, Float}
+-- The code's samples, runs and enum of a scan as the machine's.
+use Rattle.std.specs.Prelude.{List, map, ℕ, suc, ◌-◌, get_or, Float}
 use Rattle.std.specs.Float.{nan}
 use Rattle.search_definition.specs.Found.{Place, Origin}
 use Rattle.search_definition.specs.Dip.{Point}
 use Rattle.search_definition.specs.Scan.{crosses}
-use Rattle.search_definition.specs.Search.{row_at}
 use Rattle.search_steps.specs.Way.{Way}
 use Rattle.search_steps.specs.ScanSteps as Steps
 use Rattle.search_steps.specs.ScanSteps.{last_pair}
-use Rattle.search_steps.specs.Steps.{Samples, taken_at}
-use Rattle.step_refine.specs.State.{point_of, refining_of}
+use Rattle.search_steps.specs.Steps.{Samples}
+use Rattle.search_pairs.specs.declared.row.Sample as DeclaredSample
+use Rattle.step_refine.specs.State.{refining_of}
 use Rattle.step_dip.specs.State.{dip_of}
-use Rattle.step_scan.specs.declared.row.Sample as DeclaredSample
-use Rattle.step_scan.specs.declared.row.Row as DeclaredRow
-use Rattle.step_scan.specs.declared.row.Row.TheVariants.{Grid, Edge}
 use Rattle.step_scan.specs.declared.run.Run as DeclaredRun
 use Rattle.step_scan.specs.declared.scan.Scan as DeclaredScan
 use Rattle.step_scan.specs.declared.scan.Scan.TheVariants.{Crossing, Inner, Last, First}
@@ -25,18 +22,6 @@ value i s = get_or s.y i nan
 abbrev pub samples_of : List DeclaredSample.Sample → Samples
 samples_of l =
     record { xs = map (λ s. s.x) l; y0 = map (value 0) l; y1 = map (value 1) l; y2 = map (value 2) l; y3 = map (value 3) l }
-
--- what stands beyond the end of a row
-abbrev pub nowhere : Point
-nowhere = record { x = nan; y = nan }
-
-abbrev pub points : DeclaredRow.Row → ℕ → Point
-points (Grid s i) = taken_at (samples_of s.now) i
-points (Edge p) = row_at (map point_of p.now)
-
-abbrev pub len_of : DeclaredRow.Row → ℕ
-len_of (Grid s i) = length s.now
-len_of (Edge p) = length p.now
 
 abbrev pub last_of : DeclaredRun.Run → ℕ
 last_of r = last_pair r.from r.count

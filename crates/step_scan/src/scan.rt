@@ -6,11 +6,12 @@ ghost use Rattle.search_steps.specs.Way.{over};
 ghost use Rattle.search_steps.specs.ScanSteps as Steps;
 ghost use Rattle.step_pairs.specs.Landed.{landed, came};
 ghost use Rattle.step_pairs.specs.declared.Found as DeclaredFound;
-ghost use Rattle.step_scan.specs.State.{points, last_of, scan_of, item_way};
+ghost use Rattle.search_pairs.specs.Row.{points};
+ghost use Rattle.step_scan.specs.State.{last_of, scan_of, item_way};
 
-use crate::row::Row;
 use crate::run::Run;
 use arrayvec::ArrayVec;
+use search_pairs::Row;
 use search_scan::scan::{crosses, dips, falls_back, falls_to};
 use step_dip::dip::{Dip, dip_angle, dip_next};
 use step_pairs::{Found, refined};

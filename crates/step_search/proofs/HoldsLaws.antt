@@ -15,7 +15,7 @@ use Rattle.step_pairs.specs.declared.Found as DeclaredFound
 use Rattle.step_pairs.specs.Landed.{putting, Landed, landed, came}
 use Rattle.step_pairs.proofs.LandedLaws.{putting_both}
 use Rattle.step_scan.specs.State.{value, samples_of}
-use Rattle.step_scan.specs.declared.row.Sample as DeclaredSample
+use Rattle.search_pairs.specs.declared.row.Sample as DeclaredSample
 use Rattle.step_component.specs.State.{component_of}
 use Rattle.step_phase.specs.State.{place_of, searched}
 use Rattle.step_phase.specs.declared.phase.Place as DeclaredPlace

@@ -14,7 +14,7 @@ use Rattle.step_refine.specs.Point as DeclaredPoint
 use Rattle.step_pairs.specs.declared.Found.{Found}
 use Rattle.step_pairs.specs.Landed.{pair_of, putting}
 use Rattle.step_pairs.proofs.LandedLaws.{put_there}
-use Rattle.step_scan.specs.declared.row.Sample as DeclaredSample
+use Rattle.search_pairs.specs.declared.row.Sample as DeclaredSample
 use Rattle.step_search.specs.Holds.{Memory, phase_of, is_over, Holds}
 use Rattle.step_search.specs.Ran.{After, Ran}
 use Rattle.step_search.specs.declared.SearchPhase as Declared

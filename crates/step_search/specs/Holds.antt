@@ -7,7 +7,7 @@ use Rattle.step_refine.specs.Point as DeclaredPoint
 use Rattle.step_pairs.specs.declared.Found as DeclaredFound
 use Rattle.step_pairs.specs.Landed.{putting}
 use Rattle.step_scan.specs.State.{samples_of}
-use Rattle.step_scan.specs.declared.row.Sample as DeclaredSample
+use Rattle.search_pairs.specs.declared.row.Sample as DeclaredSample
 use Rattle.step_phase.specs.State.{place_of}
 use Rattle.step_search.specs.declared.SearchPhase as Declared
 use Rattle.step_search.specs.declared.SearchPhase.TheVariants.{Sampling, Searching, Ended}

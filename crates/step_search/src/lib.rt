@@ -17,11 +17,11 @@ ghost use Rattle.step_search.specs.Holds.{values, memory, phase_of, phase_at, is
 use arrayvec::ArrayVec;
 use search::angle;
 use search_error::{Fixed, error_given_q1};
+use search_pairs::{Sample, not_a_number};
 use step_component::component::component_angle;
 use step_pairs::Found;
-use step_phase::phase::{Place, components_way, search_next};
+use step_phase::phase::{Place, components_way, grid, search_next};
 use step_refine::Point;
-use step_scan::row::{Row, Sample, not_a_number};
 
 // Asks the grid's angle behind the samples taken; or is in a component; or is over.
 #[derive(Clone, Copy)]
@@ -63,9 +63,7 @@ pub fn asked_angle(
 {
     match phase {
         SearchPhase::Sampling => angle(n, samples.len() as u32),
-        SearchPhase::Searching(p) => {
-            component_angle(Row::Grid(samples.as_slice(), p.i), p.at, row)
-        }
+        SearchPhase::Searching(p) => { component_angle(grid(samples.as_slice(), p.i), p.at, row) }
         SearchPhase::Ended => not_a_number(),
     }
 }

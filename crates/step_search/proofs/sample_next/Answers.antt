@@ -3,7 +3,7 @@ use Rattle.search_definition.specs.Search.{angle, delta}
 use Rattle.search_steps.specs.Steps.{components_way}
 use Rattle.step_pairs.specs.Landed.{landed}
 use Rattle.step_scan.specs.State.{samples_of}
-use Rattle.step_scan.specs.declared.row.Sample.{Sample}
+use Rattle.search_pairs.specs.declared.row.Sample.{Sample}
 use Rattle.step_search.specs.Holds.{memory}
 use Rattle.step_search.proofs.HoldsLaws.{sample_goes, sample_ends}
 use Rattle.step_search.proofs.sample_next.Goals as goal

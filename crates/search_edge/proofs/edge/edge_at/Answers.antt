@@ -1,5 +1,5 @@
 -- The edge between two samples of which one is finite is the definition's.
-use Rattle.std.proofs.Common.{◌∙◌, refl}
+use Rattle.std.proofs.Common.{refl}
 use Rattle.search_definition.specs.Found.{edge, component}
 use Rattle.search_error.specs.Fixed.{branch_error}
 use Rattle.search_pairs.specs.State.{points, state}

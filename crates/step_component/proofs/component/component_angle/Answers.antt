@@ -3,7 +3,7 @@ use Rattle.search_definition.specs.Found.{grid, edge}
 use Rattle.search_definition.specs.Search.{Gap}
 use Rattle.search_steps.specs.EdgeSteps.{edge_angle}
 use Rattle.search_steps.specs.ComponentSteps.{component_angle}
-use Rattle.step_scan.specs.State.{points}
+use Rattle.search_pairs.specs.Row.{points}
 use Rattle.step_edge.specs.State.{edge_of}
 use Rattle.step_component.proofs.ComponentLaws.{angle_from}
 use Rattle.step_component.proofs.component.component_angle.Goals as goal

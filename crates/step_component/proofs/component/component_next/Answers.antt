@@ -6,7 +6,8 @@ use Rattle.search_steps.specs.EdgeSteps.{edge_next}
 use Rattle.search_steps.specs.ComponentSteps.{in_run, in_edge, gap_at, edges_way, runs_way, component_next}
 use Rattle.step_pairs.specs.Landed.{landed}
 use Rattle.step_pairs.proofs.LandedLaws.{part_asks, part_over}
-use Rattle.step_scan.specs.State.{points, scan_of, last_of}
+use Rattle.search_pairs.specs.Row.{points}
+use Rattle.step_scan.specs.State.{scan_of, last_of}
 use Rattle.step_edge.specs.State.{edge_of}
 use Rattle.step_component.specs.declared.component.Component.TheVariants.{InRun, InEdge}
 use Rattle.step_component.proofs.ComponentLaws.{step_from}

@@ -1,4 +1,4 @@
-use Rattle.step_scan.specs.State.{points}
+use Rattle.search_pairs.specs.Row.{points}
 use Rattle.step_component.proofs.ComponentLaws.{component_starts}
 use Rattle.step_component.proofs.component.component_way.Goals as goal
 

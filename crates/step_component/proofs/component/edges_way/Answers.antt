@@ -1,7 +1,7 @@
 use Rattle.std.proofs.Common.{◌∙◌, ap}
 use Rattle.step_pairs.specs.Landed.{landed}
 use Rattle.search_definition.specs.Found.{edge}
-use Rattle.step_scan.specs.State.{points}
+use Rattle.search_pairs.specs.Row.{points}
 use Rattle.step_component.proofs.ComponentLaws.{edges_pass, edges_stop, edges_end}
 use Rattle.step_component.proofs.component.edges_way.Goals as goal
 

@@ -4,7 +4,8 @@ use Rattle.search_steps.specs.ScanSteps.{scan_way}
 use Rattle.search_steps.specs.ComponentSteps.{in_run, edges_way, runs_way}
 use Rattle.step_pairs.specs.Landed.{landed}
 use Rattle.step_pairs.proofs.LandedLaws.{part_asks, part_over}
-use Rattle.step_scan.specs.State.{points, scan_of}
+use Rattle.search_pairs.specs.Row.{points}
+use Rattle.step_scan.specs.State.{scan_of}
 use Rattle.search_steps.specs.ScanSteps.{last_pair}
 use Rattle.step_component.proofs.ComponentLaws.{run_there, runs_past}
 use Rattle.step_component.proofs.component.runs_way.Goals as goal

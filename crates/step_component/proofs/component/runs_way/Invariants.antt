@@ -1,7 +1,7 @@
 use Rattle.std.proofs.Common.{◌≡◌, suc, ◌-◌}
 use Rattle.search_steps.specs.ComponentSteps.{runs_way}
 use Rattle.step_pairs.specs.Landed.{landed}
-use Rattle.step_scan.specs.State.{points}
+use Rattle.search_pairs.specs.Row.{points}
 use Rattle.step_component.proofs.component.runs_way.Given as goal
 
 abbrev pub invariant-loop-s : goal.invariant-loop-s

@@ -1,5 +1,5 @@
 use Rattle.std.proofs.Common.{◌∙◌}
-use Rattle.step_scan.specs.State.{points}
+use Rattle.search_pairs.specs.Row.{points}
 use Rattle.step_component.proofs.ComponentLaws.{gap_there}
 use Rattle.step_component.proofs.grid.gap_at.Goals as goal
 

@@ -1,5 +1,5 @@
 use Rattle.std.proofs.Common.{suc, ◌-◌}
-use Rattle.step_scan.specs.State.{points}
+use Rattle.search_pairs.specs.Row.{points}
 use Rattle.step_component.proofs.ComponentLaws.{Walked}
 use Rattle.step_component.proofs.grid.run_length.Given as goal
 

@@ -1,6 +1,8 @@
-use Rattle.std.proofs.Common.{[], refl, ◌∙◌, ◌+◌, ◌-◌}
+use Rattle.std.proofs.Common.{[], refl, ◌∙◌, ap, ℕ, ◌+◌, ◌-◌}
+use Rattle.search_definition.specs.Dip.{Point}
 use Rattle.search_steps.specs.ComponentSteps.{component_way}
 use Rattle.search_steps.specs.Steps.{taken_at, searching, components_way}
+use Rattle.step_pairs.specs.Landed.{landed}
 use Rattle.step_pairs.proofs.LandedLaws.{part_asks, part_over}
 use Rattle.step_scan.specs.State.{samples_of}
 use Rattle.step_component.specs.State.{component_of}
@@ -14,7 +16,7 @@ returns-in-Some g c =
     let k = c.loop-k.k in
     let h = c.loop-k.found.items in
     λ r.
-    part_asks g.row.N (component_of n r) (searching (3 - k) k) h (component_way k (taken_at S k) n) (components_way n S (4 - (k + 1)) (k + 1)) _ (c.component_way.ensures r) c.in-Some.is
+    part_asks g.row.N (component_of n r) (searching (3 - k) k) h (component_way k (taken_at S k) n) (components_way n S (4 - (k + 1)) (k + 1)) _ (c.component_way.ensures r ∙ ap (λ (P : ℕ → Point). landed g.row.N h (component_way k P n)) c.grid.ensures) c.in-Some.is
     ∙ next_component n g.row.N h S k c.loop-k-test.true
     ∙ c.loop-k.invariant
 
@@ -24,7 +26,7 @@ loop-k-preserved g c =
     let S = samples_of c.args.samples.now in
     let k = c.loop-k.k in
     let h = c.loop-k.found.items in
-    part_over g.row.N (component_of n []) (searching (3 - k) k) h (component_way k (taken_at S k) n) (components_way n S (4 - (k + 1)) (k + 1)) _ (c.component_way.ensures []) c.in_default.is refl
+    part_over g.row.N (component_of n []) (searching (3 - k) k) h (component_way k (taken_at S k) n) (components_way n S (4 - (k + 1)) (k + 1)) _ (c.component_way.ensures [] ∙ ap (λ (P : ℕ → Point). landed g.row.N h (component_way k P n)) c.grid.ensures) c.in_default.is refl
     ∙ next_component n g.row.N h S k c.loop-k-test.true
     ∙ c.loop-k.invariant
 

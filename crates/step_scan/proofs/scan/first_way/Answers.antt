@@ -1,5 +1,5 @@
 use Rattle.search_definition.specs.Scan.{alike, falls_back}
-use Rattle.step_scan.specs.State.{points}
+use Rattle.search_pairs.specs.Row.{points}
 use Rattle.step_scan.proofs.ScanLaws.{first_dips, first_none}
 use Rattle.step_scan.proofs.scan.first_way.Goals as goal
 

@@ -7,7 +7,8 @@ use Rattle.search_steps.specs.ScanSteps.{at_crossing}
 use Rattle.step_refine.specs.State.{point_of, refining_of}
 use Rattle.step_pairs.specs.Landed.{landed}
 use Rattle.step_pairs.proofs.LandedLaws.{part_ends}
-use Rattle.step_scan.specs.State.{points, scan_of}
+use Rattle.search_pairs.specs.Row.{points}
+use Rattle.step_scan.specs.State.{scan_of}
 use Rattle.step_scan.specs.declared.scan.Scan.TheVariants.{Crossing}
 use Rattle.step_scan.proofs.ScanLaws.{item_crosses, item_ends, item_dips, item_none}
 use Rattle.step_scan.proofs.scan.item.Goals as goal

@@ -2,7 +2,8 @@ use Rattle.std.proofs.Common.{◌≡◌, suc, ◌-◌}
 use Rattle.search_definition.specs.Found.{Place, Origin, component}
 use Rattle.search_steps.specs.ScanSteps.{items_way}
 use Rattle.step_pairs.specs.Landed.{landed}
-use Rattle.step_scan.specs.State.{points, last_of}
+use Rattle.search_pairs.specs.Row.{points}
+use Rattle.step_scan.specs.State.{last_of}
 use Rattle.step_scan.proofs.scan.items_after.Given as goal
 
 abbrev pub invariant-loop-at : goal.invariant-loop-at

@@ -1,5 +1,6 @@
 use Rattle.search_definition.specs.Scan.{alike, falls_to}
-use Rattle.step_scan.specs.State.{points, last_of}
+use Rattle.search_pairs.specs.Row.{points}
+use Rattle.step_scan.specs.State.{last_of}
 use Rattle.step_scan.proofs.ScanLaws.{last_dips, last_none}
 use Rattle.step_scan.proofs.scan.last_way.Goals as goal
 

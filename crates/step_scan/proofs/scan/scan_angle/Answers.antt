@@ -4,7 +4,8 @@ use Rattle.search_steps.specs.DipSteps.{dip_angle}
 use Rattle.search_steps.specs.ScanSteps.{scan_angle, of_inner, of_last, of_first}
 use Rattle.search_steps.specs.RefineSteps.{refine_angle}
 use Rattle.step_dip.specs.State.{dip_of}
-use Rattle.step_scan.specs.State.{points, last_of}
+use Rattle.search_pairs.specs.Row.{points}
+use Rattle.step_scan.specs.State.{last_of}
 use Rattle.step_scan.proofs.ScanLaws.{angle_from, between}
 use Rattle.step_scan.proofs.scan.scan_angle.Goals as goal
 

@@ -9,7 +9,8 @@ use Rattle.step_refine.specs.State.{refining_of}
 use Rattle.step_pairs.specs.Landed.{landed}
 use Rattle.step_pairs.proofs.LandedLaws.{part_asks, part_over, part_ends}
 use Rattle.step_dip.specs.State.{dip_of}
-use Rattle.step_scan.specs.State.{points, last_of, scan_of}
+use Rattle.search_pairs.specs.Row.{points}
+use Rattle.step_scan.specs.State.{last_of, scan_of}
 use Rattle.step_scan.specs.declared.scan.Scan.TheVariants.{Crossing, Inner, Last, First}
 use Rattle.step_scan.proofs.ScanLaws.{step_from, between}
 use Rattle.step_scan.proofs.scan.scan_next.Goals as goal

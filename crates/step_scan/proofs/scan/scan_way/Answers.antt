@@ -3,7 +3,8 @@ use Rattle.search_steps.specs.Way.{over}
 use Rattle.search_definition.specs.Found.{Place, Origin}
 use Rattle.search_steps.specs.ScanSteps.{items_way}
 use Rattle.step_pairs.proofs.LandedLaws.{then_asks, then_over}
-use Rattle.step_scan.specs.State.{points, last_of, scan_of, item_way}
+use Rattle.search_pairs.specs.Row.{points}
+use Rattle.step_scan.specs.State.{last_of, scan_of, item_way}
 use Rattle.step_scan.proofs.ScanLaws.{item_then, item_of_run, short_row, long_row}
 use Rattle.step_scan.proofs.scan.scan_way.Goals as goal
 
