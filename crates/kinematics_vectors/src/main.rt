@@ -15,38 +15,15 @@ const ANGLES: usize = 40;
 
 const RESULTS: usize = 46;
 
-fn arm(bytes: &[u8; 512]) -> [f64; 39] {
-    let mut xs = [0.0; 39];
-    cases::numbers(bytes, ARM, &mut xs);
-    xs
-}
-
-fn angles(bytes: &[u8; 512]) -> [f64; 6] {
-    let mut xs = [0.0; 6];
-    cases::numbers(bytes, ANGLES, &mut xs);
-    xs
-}
-
-// The rotation by rows and the place, as a record has them: six words more are left zero.
-fn results(pose: &[f64; 12]) -> [u64; 18] {
-    let mut out = [0u64; 18];
-    for (word, x) in out.iter_mut().zip(pose) {
-        *word = cases::pattern(*x);
-    }
-    out
-}
-
-fn gives(bytes: &[u8; 512], out: &[u64; 18]) -> bool {
-    cases::agree(bytes, RESULTS, out)
-}
-
+// The rotation by rows and the place stand first among the results, and six words more are zero.
 fn agrees(bytes: &[u8; 512]) -> bool {
-    let from = arm(bytes);
-    let theta = angles(bytes);
+    let arm: [f64; 39] = cases::array_of(bytes, ARM);
+    let angles: [f64; 6] = cases::array_of(bytes, ANGLES);
     let mut pose = [0.0; 12];
-    let is_ok = forward::forward(&from, &theta, &mut pose).is_ok();
-    let out = results(&pose);
-    is_ok && gives(bytes, &out)
+    let is_ok = forward::forward(&arm, &angles, &mut pose).is_ok();
+    is_ok
+        && cases::agree(bytes, RESULTS, &pose.map(cases::pattern))
+        && cases::agree(bytes, RESULTS + 12, &[0; 6])
 }
 
 fn main(rt: HostRuntime) -> io::Result<()> {
