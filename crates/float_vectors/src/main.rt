@@ -27,7 +27,11 @@ const NAMES: [&str; 17] = [
     "div",
 ];
 
-// Results that are one f64. An id that is none of theirs is answered elsewhere.
+// The place of the first result.
+const RESULTS: usize = 3;
+
+// Results that are one f64. The last four are the operations of the compiled code, on which every other
+// result rests.
 fn result(id: u64, x: f64, y: f64) -> f64 {
     match id {
         0 => float::abs(x),
@@ -41,13 +45,6 @@ fn result(id: u64, x: f64, y: f64) -> f64 {
         10 => float::wrap_to_pi(x),
         11 => float::inverse_wrap_to_pi(x),
         12 => float::infinity(),
-        _ => operation(id, x, y),
-    }
-}
-
-// The operations of the compiled code, on which every other result rests.
-fn operation(id: u64, x: f64, y: f64) -> f64 {
-    match id {
         13 => x + y,
         14 => x - y,
         15 => x * y,
@@ -57,18 +54,15 @@ fn operation(id: u64, x: f64, y: f64) -> f64 {
 
 fn sin_cos_agrees(bytes: &[u8; 40], x: f64) -> bool {
     let p = float::sin_cos(x);
-    let is_sin = cases::gives(bytes, 3, p.sin);
-    let is_cos = cases::gives(bytes, 4, p.cos);
-    is_sin && is_cos
+    cases::agree(bytes, RESULTS, &[p.sin, p.cos].map(cases::pattern))
 }
 
 fn agrees(bytes: &[u8; 40], id: u64) -> bool {
-    let x = cases::argument(bytes, 1);
-    let y = cases::argument(bytes, 2);
+    let [x, y]: [f64; 2] = cases::array_of(bytes, 1);
     match id {
-        1 => cases::same(cases::word(bytes, 3), float::is_finite(x) as u64),
+        1 => cases::agree(bytes, RESULTS, &[u64::from(float::is_finite(x))]),
         6 => sin_cos_agrees(bytes, x),
-        _ => cases::gives(bytes, 3, result(id, x, y)),
+        _ => cases::gives(bytes, RESULTS, result(id, x, y)),
     }
 }
 
