@@ -11,6 +11,8 @@ use linear::{Matrix3, Vector3};
 // What subproblem1 flags by.
 const TOLERANCE: f64 = 1e-6;
 
+// The families alone: `full_list` has such a match too, behind a task whose family searches or does not,
+// and needs the search and its crates below it.
 #[tactic(auto, unfolding(crate::specs::Numbered::by_number))]
 fn by_number(
     id: u64,

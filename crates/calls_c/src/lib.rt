@@ -2,7 +2,8 @@
 // begin with bench_ the benchmark, by way of bench_c (tools/measure/bench_functions.sh). Numbers, arguments and results are
 // those of the oracle's test records (`oracle layout`): a vector stands by its parts, a matrix by
 // rows, a complex number as re and im, a set or a list of roots as its count and all its slots. The
-// results go to the first words of `out`. A number that no function has writes nothing.
+// results go to the first words of `out`. A number that no function has writes nothing. (Numbers of
+// functions, and lists that travel together, are as a caller in C hands them over: bench_c's exports have them.)
 #![tactic(auto)]
 
 mod family_call;
