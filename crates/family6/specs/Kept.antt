@@ -6,7 +6,7 @@ use Rattle.linear.specs.declared.vector.Vector3.{Vector3}
 use Rattle.kinematics.specs.declared.Kinematics.{Kinematics}
 use Rattle.search_definition.specs.Found.{pairs}
 use Rattle.search_error.specs.Error.{t64_count}
-use Rattle.search_pairs.specs.declared.SearchCounts.{SearchCounts}
+use Rattle.search_pairs.specs.declared.pair_list.PairList.{PairList}
 use Rattle.search.specs.Demand.{two_parallel_search}
 use Rattle.family6_answers.specs.Pairs.{first_pairs}
 use Rattle.family6.specs.TwoParallel.{evaluations}
@@ -15,11 +15,11 @@ use Rattle.family6.specs.TwoParallel.{evaluations}
 abbrev pub Usable : Matrix → Vector3 → Kinematics → ℕ → List Float → List ℕ → Type 0
 Usable r_06 p_0t kin m qs cs = (j : ℕ) → j < m → get_or cs j 0 < t64_count kin r_06 p_0t (get_or qs j nan)
 
-pub record Kept (r_06 : Matrix) (p_0t : Vector3) (kin : Kinematics) (n : ℕ) (s : SearchCounts) (qs : List Float) (cs : List ℕ) : Type 0 where
-  pub held : first_pairs s.pairs qs cs ≡ pairs (two_parallel_search kin r_06 p_0t n)
-  pub usable : Usable r_06 p_0t kin s.pairs qs cs
-  pub counted : s.evals ≡ evaluations r_06 p_0t kin n
+pub record Kept (r_06 : Matrix) (p_0t : Vector3) (kin : Kinematics) (n : ℕ) {N : ℕ} (list : PairList N) : Type 0 where
+  pub held : first_pairs list.pairs list.angles list.components ≡ pairs (two_parallel_search kin r_06 p_0t n)
+  pub usable : Usable r_06 p_0t kin list.pairs list.angles list.components
+  pub counted : list.evals ≡ evaluations r_06 p_0t kin n
   -- the pairs are within both lists
-  pub few : s.pairs ≤ 17600
-  pub qs_long : length qs ≡ 17600
-  pub cs_long : length cs ≡ 17600
+  pub few : list.pairs ≤ 17600
+  pub qs_long : length list.angles ≡ 17600
+  pub cs_long : length list.components ≡ 17600

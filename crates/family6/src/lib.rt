@@ -2,7 +2,7 @@
 // and each is made from its pair when it is read, so that all are known before one is written.
 #![tactic(auto)]
 
-ghost use Rattle.std.specs.Prelude.{◌≡◌, ◌<◌, length};
+ghost use Rattle.std.specs.Prelude.{◌≡◌, ◌<◌};
 ghost use Rattle.search_error.specs.Error.{t64_count};
 ghost use Rattle.family6_answers.specs.Pairs.{pair};
 ghost use Rattle.family6.specs.TwoParallel.{answer_of};
@@ -12,22 +12,20 @@ use answers::Answer;
 use kinematics::Kinematics;
 use linear::{Matrix3, Vector3};
 use search_error::Fixed;
-pub use search_pairs::SearchCounts;
+pub use search_pairs::PairList;
 
-// The pairs of an arm and a pose by a search over n + 1 samples, in two lists with room for 17,600: 44 *
-// 400, the most that there can be. An n above 400 is not searched: no answer, no evaluation.
+// The pairs of an arm and a pose by a search over n + 1 samples, in a list with room for 17,600: 44 * 400,
+// the most that there can be. An n above 400 is not searched: no answer, no evaluation.
 pub fn two_parallel(
     r_06: Matrix3,
     p_0t: Vector3,
     kin: Kinematics,
     n: usize,
-    qs: &mut [f64],
-    cs: &mut [u8],
-) -> SearchCounts
-    requires { (length qs.old ≡ 17600) × (length cs.old ≡ 17600) }
-    ensures { Kept r_06 p_0t kin n result qs.new cs.new }
+    list: &mut PairList<17600>,
+)
+    ensures { Kept r_06 p_0t kin n list.new }
 {
-    search::search_1d_bracketed(&Fixed::new(kin, r_06, p_0t), n, qs, cs)
+    search::search_1d_bracketed(&Fixed::new(kin, r_06, p_0t), n, list);
 }
 
 // The answer of the pair (q1, i). What does not depend on q1 is computed anew for each answer: beside the

@@ -25,7 +25,7 @@ use Rattle.families.specs.ThreeParallelTwoIntersecting.{three_parallel_two_inter
 use Rattle.families.specs.ThreeParallel.{three_parallel}
 use Rattle.families.proofs.AtMost8.{at_most_8}
 use Rattle.search_definition.specs.Found.{SearchPair}
-use Rattle.search_pairs.specs.declared.SearchCounts.{SearchCounts}
+use Rattle.search_pairs.specs.declared.pair_list.PairList.{PairList}
 use Rattle.family6_answers.specs.Pairs.{pair, zipped, first_pairs}
 use Rattle.family6_answers.proofs.Zipped.{first_long, first_at}
 use Rattle.family6.specs.TwoParallel.{answer_of, two_parallel}
@@ -61,12 +61,12 @@ module _ (qs : List Float) (cs : List ℕ) (same : length cs ≡ length qs) wher
       sym (map_at f (zipped qs cs) k (pair nan 0) blank within ∙ ap f e)
 
 -- the answers of the pairs that family 6 keeps are its list
-module _ (r : Matrix) (p : Vector3) (kin : Kinematics) (n : ℕ) {s : SearchCounts} {qs : List Float} {cs : List ℕ} (kept : Kept r p kin n s qs cs) where
-  pub searched : map (answer_of r p kin tolerance) (first_pairs s.pairs qs cs) ≡ (by_family 6 n r p kin tolerance).answers
+module _ (r : Matrix) (p : Vector3) (kin : Kinematics) (n : ℕ) {N : ℕ} {list : PairList N} (kept : Kept r p kin n list) where
+  pub searched : map (answer_of r p kin tolerance) (first_pairs list.pairs list.angles list.components) ≡ (by_family 6 n r p kin tolerance).answers
   unfolding by_family two_parallel
   searched = ap (map (answer_of r p kin tolerance)) kept.held
 
-  pub searched_counted : s.evals ≡ (by_family 6 n r p kin tolerance).evals
+  pub searched_counted : list.evals ≡ (by_family 6 n r p kin tolerance).evals
   unfolding by_family
   searched_counted = kept.counted
 

@@ -8,6 +8,7 @@ mod list;
 mod pairs;
 mod task;
 
+pub use family6::PairList;
 pub use found::without_search;
 pub use list::{FullList, search, with_list};
 pub use pairs::Pairs;

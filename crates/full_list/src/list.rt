@@ -10,6 +10,7 @@ use crate::pairs::Pairs;
 use crate::task::Task;
 use answers::{Answer, rest};
 use arrayvec::ArrayVec;
+use family6::PairList;
 use limits::Limits;
 use refusals::Family;
 
@@ -21,30 +22,31 @@ pub enum FullList<'a> {
 }
 
 // Family 6, by a search over n + 1 samples.
-pub fn search<'a>(task: &Task, qs: &'a mut [f64; 17600], cs: &'a mut [u8; 17600]) -> Pairs<'a>
+pub fn search<'a>(task: &Task, list: &'a mut PairList<17600>) -> Pairs<'a>
     ensures all { of_pairs result ≡ (for_search task.now).answers }
     ensures counted { result.evals ≡ (for_search task.now).evals }
 {
-    let s = family6::two_parallel(task.r_06, task.p_0t, task.kin, task.n, qs, cs);
+    family6::two_parallel(task.r_06, task.p_0t, task.kin, task.n, list);
+    let count = list.pairs;
+    let evals = list.evals;
     Pairs {
         task: *task,
-        angles: &qs[..s.pairs],
-        components: &cs[..s.pairs],
-        evals: s.evals,
+        angles: &list.angles[..count],
+        components: &list.components[..count],
+        evals,
     }
 }
 
-// What `f` makes of the full list of a task. The list is lent to it: the pairs of family 6 stand in two
-// arrays here, which are too long to hand back.
+// What `f` makes of the full list of a task. The list is lent to it: the pairs of family 6 stand in a
+// list here, which is too long to hand back.
 pub fn with_list<R, F: FnMut(&FullList) -> R>(task: &Task, f: &mut F) -> R
     requires { F.IsAlwaysCallable f.old }
     ensures { (list : _) × ListOf task.now list.now × F.step f.old list result f.new }
 {
     match task.family {
         Family::TwoParallel => {
-            let mut qs = [0.0; 17600];
-            let mut cs = [0u8; 17600];
-            f(&FullList::Searched(search(task, &mut qs, &mut cs)))
+            let mut pairs = PairList::new();
+            f(&FullList::Searched(search(task, &mut pairs)))
         }
         _ => f(&FullList::Found(without_search(task))),
     }

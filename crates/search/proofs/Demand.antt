@@ -1,8 +1,6 @@
 -- Demand 3 of the search's contract, for every arm and pose. Assumes nothing.
-use mathlib.Core.List.{List}
 use Prim.Native.Nat.{ℕ, ◌*◌, ◌≤◌}
 use native.Mathlib.Omega.{arith}
-use lib.Ieee.{Float}
 use lib.ListN.{length}
 use Rattle.linear.specs.Matrix.{Matrix}
 use Rattle.linear.specs.declared.vector.Vector3.{Vector3}
@@ -14,13 +12,13 @@ use Rattle.search_error.specs.Error.{error_i, t64_count}
 use Rattle.search_error.proofs.Strict.{strict}
 use Rattle.search.specs.Searched.{Searched, Listed}
 use Rattle.search.specs.Demand.{two_parallel_search, Demanded}
-use Rattle.search_pairs.specs.declared.SearchCounts.{SearchCounts}
+use Rattle.search_pairs.specs.declared.pair_list.PairList.{PairList}
 use Rattle.search.proofs.Listed.{listed}
 
-pub demand : (kin : Kinematics) (r_06 : Matrix) (p_0t : Vector3) (n : ℕ) (q : List Float) (c : List ℕ) {q' : List Float} {c' : List ℕ} {r : SearchCounts} → 1 ≤ n → n ≤ 400 → 44 * n ≤ length q → 44 * n ≤ length c → Searched (two_parallel_search kin r_06 p_0t n) q c q' c' r → Demanded kin r_06 p_0t n q c q' c' r
-demand kin r_06 p_0t n q c {q'} {c'} {r} one most room room' w =
+pub demand : (kin : Kinematics) (r_06 : Matrix) (p_0t : Vector3) (n : ℕ) {N : ℕ} (old : PairList N) {new : PairList N} → 1 ≤ n → n ≤ 400 → 44 * n ≤ length old.angles → 44 * n ≤ length old.components → Searched (two_parallel_search kin r_06 p_0t n) old new → Demanded kin r_06 p_0t n old new
+demand kin r_06 p_0t n {N} old {new} one most room room' w =
     let err = error_i kin r_06 p_0t in
-    let l : Listed (search_1d_bracketed err n) q c q' c' r = listed err n q c most room room' w in
+    let l : Listed (search_1d_bracketed err n) old new = listed err n old most room room' w in
     let d : Demand3 err n (t64_count kin r_06 p_0t) = demand_3 err n (t64_count kin r_06 p_0t) (strict kin r_06 p_0t) in
     record {
       listed = l;

@@ -2,7 +2,7 @@
 use mathlib.Core.Path.{◌≡◌, refl, sym, ◌∙◌, ap, ap₂}
 use mathlib.Core.Bool.{Bool, true, false}
 use mathlib.Core.List.{List}
-use Prim.Native.Nat.{ℕ, suc, ◌+◌, ◌-◌, ◌*◌, ◌≤◌, ◌<◌}
+use Prim.Native.Nat.{ℕ, zero, suc, ◌+◌, ◌-◌, ◌*◌, ◌≤◌, ◌<◌}
 use native.Mathlib.Omega.{arith}
 use native.Mathlib.Numerals.{add-one}
 use lib.ListN.{length, length-append, get_or, set}
@@ -10,17 +10,16 @@ use lib.Seq.{get_or-set_same, get_or-set_other}
 use native.Mathlib.Decide.{ℕ_discrete}
 use lib.Ieee.{Float, nan}
 use Rattle.float.specs.Number.{is_finite}
-use Rattle.search_definition.specs.Found.{grid, Out, asks, ◌then◌}
+use Rattle.search_definition.specs.Found.{grid, Out, nothing, asks, ◌then◌}
 use Rattle.search_definition.specs.Dip.{Point}
 use Rattle.search_definition.specs.Scan.{scan_samples}
 use Rattle.search_definition.specs.Search.{edge_at, edges, runs, of_component, angle, delta, angles, sample, search_1d_bracketed}
 use Rattle.search_definition.proofs.Bounds.{of_component_held, angles_length}
-use Rattle.search.specs.State.{State, held, afterwards, point, points}
+use Rattle.search.specs.State.{State, held, afterwards, point, sampled, column}
 use Rattle.search_error.specs.Fixed.{error_of, error_at}
 use Rattle.search_error.specs.declared.Fixed.{Fixed}
-use Rattle.search_refine.specs.Point.{point_of}
-use Rattle.search_refine.specs.declared.Point as DeclaredPoint
-use Rattle.search.specs.Searched.{spaced, Sampled, Gridded, of_components}
+use Rattle.search_pairs.specs.declared.row.Sample.{Sample}
+use Rattle.search.specs.Searched.{spaced, Gridded, of_components}
 use Rattle.search_pairs.proofs.States.{after_nothing, after_two, after_asks}
 use Rattle.search_edge.proofs.Rows.{both, component_same}
 
@@ -109,28 +108,54 @@ few_more f i P n s t e =
     let h = of_component_held f i P n in
     (omega (arith, ap (λ (z : State). z.pairs) e, h.pairs), omega (arith, ap (λ (z : State). z.evals) e, h.cost))
 
--- ---- the whole: err is the error, and the lists hold its samples
-module _ (err : ℕ → Float → Float) (n : ℕ) where
-  sampled_component : (i : ℕ) (r : List DeclaredPoint.Point) → Sampled (sample err n i) (n + 1) r → of_component (err i) i (points r) n ≡ of_component (err i) i (sample err n i) n
-  sampled_component i r a = component_same (err i) i (points r) (sample err n i) n (λ k h. a k (omega arith))
+-- ---- the four components, over the rows P
+module _ (err : ℕ → Float → Float) (n : ℕ) (P : ℕ → ℕ → Point) where
+  abbrev pub component_at : ℕ → Out
+  component_at i = of_component (err i) i (P i) n
+
+  -- those from i on
+  abbrev pub components_from : ℕ → Out
+  components_from zero = of_components err n P
+  components_from (suc zero) = component_at 1 then component_at 2 then component_at 3
+  components_from (suc (suc zero)) = component_at 2 then component_at 3
+  components_from (suc (suc (suc zero))) = component_at 3
+  components_from (suc (suc (suc (suc i)))) = nothing
+
+  pub component_next : (i : ℕ) (s : State) {t u : State} → i < 4 → afterwards s (components_from i) ≡ u → t ≡ afterwards s (component_at i) → afterwards t (components_from (i + 1)) ≡ u
+  component_next zero s h inv w = after_two s (component_at 0) (component_at 1 then component_at 2 then component_at 3) w refl ∙ inv
+  component_next (suc zero) s h inv w = after_two s (component_at 1) (component_at 2 then component_at 3) w refl ∙ inv
+  component_next (suc (suc zero)) s h inv w = after_two s (component_at 2) (component_at 3) w refl ∙ inv
+  component_next (suc (suc (suc zero))) s {t} h inv w = after_nothing t ∙ w ∙ inv
+  component_next (suc (suc (suc (suc i)))) s h inv w = absurd (omega arith)
+
+  pub components_end : (i : ℕ) (s : State) {u : State} → 4 ≤ i → afterwards s (components_from i) ≡ u → s ≡ u
+  components_end zero s h inv = absurd (omega arith)
+  components_end (suc zero) s h inv = absurd (omega arith)
+  components_end (suc (suc zero)) s h inv = absurd (omega arith)
+  components_end (suc (suc (suc zero))) s h inv = absurd (omega arith)
+  components_end (suc (suc (suc (suc i)))) s h inv = sym (after_nothing s) ∙ inv
+
+-- ---- the whole: err is the error, and the list holds its samples
+module _ (err : ℕ → Float → Float) (n : ℕ) (l : List Sample) (g : Gridded err n (n + 1) l) where
+  same : (i : ℕ) → of_component (err i) i (column l i) n ≡ of_component (err i) i (sample err n i) n
+  same i = component_same (err i) i (column l i) (sample err n i) n (λ k h. g.each i k (omega arith))
 
   -- m is the count after the grid's samples
-  pub search_done : (q : List Float) (c : List ℕ) {t : State} {m : ℕ} (r0 r1 r2 r3 : List DeclaredPoint.Point) → m ≡ n + 1 → Gridded err n (n + 1) r0 r1 r2 r3 → t ≡ afterwards (held q c 0 m) (of_components err n (points r0) (points r1) (points r2) (points r3)) → t ≡ afterwards (held q c 0 0) (search_1d_bracketed err n)
+  pub search_done : (q : List Float) (c : List ℕ) {t : State} {m : ℕ} → m ≡ n + 1 → t ≡ afterwards (held q c 0 m) (of_components err n (column l)) → t ≡ afterwards (held q c 0 0) (search_1d_bracketed err n)
   unfolding search_1d_bracketed
-  search_done q c {t} {m} r0 r1 r2 r3 em g e =
+  search_done q c {t} {m} em e =
       let count : m ≡ 0 + length (angles n (suc n) 0) = omega (arith, em, angles_length n (suc n) 0) in
       let start : held q c 0 m ≡ afterwards (held q c 0 0) (asks (angles n (suc n) 0)) = (λ i. held q c 0 (count i)) ∙ after_asks (held q c 0 0) (angles n (suc n) 0) in
-      let same : of_components err n (points r0) (points r1) (points r2) (points r3) ≡ of_components err n (sample err n 0) (sample err n 1) (sample err n 2) (sample err n 3) =
-      both (sampled_component 0 r0 g.first) (both (sampled_component 1 r1 g.second) (both (sampled_component 2 r2 g.third) (sampled_component 3 r3 g.fourth))) in
-      after_two (held q c 0 0) (asks (angles n (suc n) 0)) _ start (e ∙ ap (afterwards (held q c 0 m)) same)
+      let all : of_components err n (column l) ≡ of_components err n (sample err n) = both (same 0) (both (same 1) (both (same 2) (same 3))) in
+      after_two (held q c 0 0) (asks (angles n (suc n) 0)) _ start (e ∙ ap (afterwards (held q c 0 m)) all)
 
--- one more sample of a row, the point v
-pub sampled_next : (r : List DeclaredPoint.Point) (g : ℕ → Point) (k : ℕ) {v : DeclaredPoint.Point} → point_of v ≡ g k → k < length r → Sampled g k r → Sampled g (k + 1) (set r k v)
-sampled_next r g k {v} e h inv j l = go (ℕ_discrete j k)
+-- one more sample of the grid, v
+pub gridded_next : (err : ℕ → Float → Float) (n : ℕ) (l : List Sample) (k : ℕ) (v : Sample) → ((i : ℕ) → sampled i v ≡ sample err n i k) → k < length l → Gridded err n k l → Gridded err n (k + 1) (set l k v)
+gridded_next err n l k v e h inv = record { each = λ i j b. go i j b (ℕ_discrete j k) }
   where
-    go : Dec (j ≡ k) → points (set r k v) j ≡ g j
-    go (yes d) = ap (points (set r k v)) d ∙ ap point_of (get_or-set_same r k v _ h) ∙ e ∙ ap g (sym d)
-    go (no n) = ap point_of (get_or-set_other r k j v _ n) ∙ inv j (omega arith)
+    go : (i j : ℕ) → j < k + 1 → Dec (j ≡ k) → column (set l k v) i j ≡ sample err n i j
+    go i j b (yes d) = ap (column (set l k v) i) d ∙ ap (sampled i) (get_or-set_same l k v _ h) ∙ e i ∙ ap (sample err n i) (sym d)
+    go i j b (no n') = ap (sampled i) (get_or-set_other l k j v _ n') ∙ inv.each i j (omega arith)
 
 -- the sample of component i, as the code takes it
 pub sample_is : (g : Fixed) (n k : ℕ) {x : Float} {e : List Float} → x ≡ spaced n k → e ≡ error_of g x → (i : ℕ) → point x (get_or e i nan) ≡ sample (error_at g) n i k

@@ -1,6 +1,6 @@
 -- What the search's contract means: the fields of `Searched`, and the whole lists where there is room for every pair. Assumes nothing.
 use mathlib.Core.Path.{◌≡◌, sym, ◌∙◌, ap, subst}
-use mathlib.Core.List.{List, ◌++◌, map}
+use mathlib.Core.List.{◌++◌, map}
 use Prim.Native.Nat.{ℕ, ◌*◌, ◌≤◌, ◌<◌}
 use native.Mathlib.Omega.{arith}
 use native.Mathlib.Nat.{zero-add}
@@ -13,11 +13,11 @@ use Rattle.search_definition.specs.Search.{search_1d_bracketed}
 use Rattle.search_definition.proofs.Bounds.{search_held}
 use Rattle.search.specs.State.{State, held, state, angle_of, component_of, afterwards}
 use Rattle.search.specs.Searched.{Searched, Listed, search_within}
-use Rattle.search_pairs.specs.declared.SearchCounts.{SearchCounts}
+use Rattle.search_pairs.specs.declared.pair_list.PairList.{PairList}
 
-pub searched : (o : Out) (q : List Float) (c : List ℕ) {q' : List Float} {c' : List ℕ} {r : SearchCounts} → state q' c' r ≡ afterwards (held q c 0 0) o → Searched o q c q' c' r
+pub searched : (o : Out) {N : ℕ} (old : PairList N) {new : PairList N} → state new ≡ afterwards (held old.angles old.components 0 0) o → Searched o old new
 unfolding afterwards
-searched o q c e =
+searched o old e =
     record {
       angles = ap (λ (z : State). z.angles) e;
       components = ap (λ (z : State). z.components) e;
@@ -25,8 +25,8 @@ searched o q c e =
       evals = ap (λ (z : State). z.evals) e ∙ zero-add _;
     }
 
-pub same_error : {err err' : ℕ → Float → Float} (n : ℕ) (q : List Float) (c : List ℕ) {q' : List Float} {c' : List ℕ} {r : SearchCounts} → err ≡ err' → Searched (search_within err n) q c q' c' r → Searched (search_within err' n) q c q' c' r
-same_error n q c {q'} {c'} {r} e s = subst (λ (f : ℕ → Float → Float). Searched (search_within f n) q c q' c' r) e s
+pub same_error : {err err' : ℕ → Float → Float} (n : ℕ) {N : ℕ} (old : PairList N) {new : PairList N} → err ≡ err' → Searched (search_within err n) old new → Searched (search_within err' n) old new
+same_error n {N} old {new} e s = subst (λ (f : ℕ → Float → Float). Searched (search_within f n) old new) e s
 
 module _ (err : ℕ → Float → Float) (n : ℕ) where
   pub within : n ≤ 400 → search_1d_bracketed err n ≡ search_within err n
@@ -35,16 +35,16 @@ module _ (err : ℕ → Float → Float) (n : ℕ) where
   pub beyond : 400 < n → nothing ≡ search_within err n
   beyond h = rw (lt-leb n 400 h)
 
-  pub listed : (q : List Float) (c : List ℕ) {q' : List Float} {c' : List ℕ} {r : SearchCounts} → n ≤ 400 → 44 * n ≤ length q → 44 * n ≤ length c → Searched (search_within err n) q c q' c' r → Listed (search_1d_bracketed err n) q c q' c' r
-  listed q c {q'} {c'} {r} h a b w =
-      let s : Searched (search_1d_bracketed err n) q c q' c' r = rw (within h) w in
+  pub listed : {N : ℕ} (old : PairList N) {new : PairList N} → n ≤ 400 → 44 * n ≤ length old.angles → 44 * n ≤ length old.components → Searched (search_within err n) old new → Listed (search_1d_bracketed err n) old new
+  listed old {new} h a b w =
+      let s : Searched (search_1d_bracketed err n) old new = rw (within h) w in
       let l = (search_1d_bracketed err n).found in
       let k = search_held err n in
       let m : length (map angle_of l) ≡ length l = length-map l angle_of in
       let p : length (map component_of l) ≡ length l = length-map l component_of in
       record {
-        angles = s.angles ∙ sets-eq (map angle_of l) q 0 (omega (arith, k.pairs)) ∙ ap (λ (j : ℕ). map angle_of l ++ drop j q) (zero-add _ ∙ m ∙ sym s.pairs);
-        components = s.components ∙ sets-eq (map component_of l) c 0 (omega (arith, k.pairs)) ∙ ap (λ (j : ℕ). map component_of l ++ drop j c) (zero-add _ ∙ p ∙ sym s.pairs);
+        angles = s.angles ∙ sets-eq (map angle_of l) old.angles 0 (omega (arith, k.pairs)) ∙ ap (λ (j : ℕ). map angle_of l ++ drop j old.angles) (zero-add _ ∙ m ∙ sym s.pairs);
+        components = s.components ∙ sets-eq (map component_of l) old.components 0 (omega (arith, k.pairs)) ∙ ap (λ (j : ℕ). map component_of l ++ drop j old.components) (zero-add _ ∙ p ∙ sym s.pairs);
         pairs = s.pairs;
         evals = s.evals;
       }

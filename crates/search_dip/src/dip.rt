@@ -13,7 +13,7 @@ ghost use Rattle.search_dip.specs.Valley.{valley};
 
 use float::{infinity, is_finite};
 use search_error::Branch;
-use search_pairs::{SearchCounts, put_pair, put_refined};
+use search_pairs::PairList;
 use search_refine::Point;
 
 const INV_PHI: f64 = 0.618033988749895;
@@ -162,31 +162,21 @@ pub fn lowest(branch: &Branch, sign: f64, a: f64, b: f64) -> Valley
 // The dip between a and b: one pair or two, or none. The contract says it for every way o to name what
 // added a pair, so that a caller can take its own; the state is the pairs listed so far and the
 // evaluations, and the counts are so low that no counter overflows.
-pub fn minimise_dip(
-    branch: &Branch,
-    a: Point,
-    b: Point,
-    qs: &mut [f64],
-    cs: &mut [u8],
-    f: SearchCounts,
-) -> SearchCounts
-    requires { Roomy 1000000 f }
-    ensures { ((o : Part → Origin) → ((h : Part) → component (o h) ≡ branch.now.i) → state qs.new cs.new result ≡ afterwards (state qs.old cs.old f) (minimise_dip (branch_error branch.now) o (point_of a) (point_of b))) }
+pub fn minimise_dip<const N: usize>(branch: &Branch, a: Point, b: Point, list: &mut PairList<N>)
+    requires { Roomy 1000000 list.old }
+    ensures { ((o : Part → Origin) → ((h : Part) → component (o h) ≡ branch.now.i) → state list.new ≡ afterwards (state list.old) (minimise_dip (branch_error branch.now) o (point_of a) (point_of b))) }
 {
     let sign = sign_of(a.y);
     let v = lowest(branch, sign, a.x, b.x);
-    let evals = f.evals + v.evals;
-    let h = SearchCounts { evals, ..f };
+    list.evals += v.evals;
     if v.best_g < 0.0 {
         let m = Point {
             x: v.best_x,
             y: sign * v.best_g,
         };
-        let k = put_refined(branch, a, m, qs, cs, h);
-        return put_refined(branch, m, b, qs, cs, k);
+        list.put_refined(branch, a, m);
+        list.put_refined(branch, m, b);
+    } else if is_finite(v.best_g) {
+        list.put_pair(branch.i, v.best_x);
     }
-    if is_finite(v.best_g) {
-        return put_pair(branch.i, v.best_x, qs, cs, h);
-    }
-    h
 }

@@ -1,10 +1,8 @@
 -- The steps at the end of a branch: bisection, and the row of samples towards it. Assumes nothing.
-use Rattle.std.proofs.Common.{◌≡◌, ℕ, zero, suc, ◌+◌, ◌-◌, ◌<◌, ◌≤◌, Bool, true, false, ◌≢◌, List, [], ◌∷◌, ◌++◌, map, reverse, length, get_or, set, sym, refl, ap, ◌∙◌, ap₂, append_assoc, append-nil, not-suc-le-zero, add-one, arith, length-append, get_or-set_other, get_or-set_same}
+use Rattle.std.proofs.Common.{◌≡◌, ℕ, suc, ◌+◌, ◌-◌, ◌<◌, ◌≤◌, Bool, true, false, List, [], ◌∷◌, ◌++◌, map, reverse, length, get_or, sym, refl, ap, ◌∙◌, ap₂, append_assoc, append-nil, add-one, arith}
 use mathlib.Core.Bool.{beq}
 use mathlib.Core.List.{reverse-append, map-append}
-use native.Mathlib.Decide.{ℕ_discrete}
-use lib.ListN.{get_or-append, get_or-map, length-map}
-use lib.Seq.{get_or-append_seam}
+use lib.ListN.{get_or-map, length-map}
 use lib.Ieee.{Float, nan, lt}
 use Rattle.float.specs.Num.{◌⊕◌, ◌⊖◌, ◌⊗◌}
 use Rattle.float.specs.Number.{is_finite}
@@ -15,7 +13,8 @@ use Rattle.search_definition.specs.Search.{Gap, mid, keep, reversed_if, share, h
 use Rattle.search_refine.specs.Counted.{Counted, with_count, total, counted}
 use Rattle.search_refine.specs.Point.{point_of}
 use Rattle.search_refine.specs.declared.Point as DeclaredPoint
-use Rattle.search_pairs.specs.State.{point, points, row, firsts, State, afterwards}
+use Rattle.search_pairs.specs.Row.{point, points_of}
+use Rattle.search_pairs.specs.State.{State, afterwards}
 use Rattle.search_refine.proofs.Count.{counted_asking, counted_total}
 use Rattle.search_pairs.proofs.States.{after_both, after_nothing, spend, after_asks}
 
@@ -33,25 +32,7 @@ pub bisect_end : (f : Float → Float) (k : ℕ) (g : Gap) (u : Counted Gap) →
 unfolding bisect
 bisect_end f k g u e inv = sym (ap (λ (z : ℕ). counted z (bisect f (16 - z) g)) e) ∙ inv
 
--- ---- the first points of a row
-pub firsts_ext : (P Q : ℕ → Point) (m : ℕ) → ((j : ℕ) → j < m → P j ≡ Q j) → firsts P m ≡ firsts Q m
-unfolding firsts
-firsts_ext P Q zero h = refl
-firsts_ext P Q (suc m) h = ap₂ (λ (l : List Point) (p : Point). l ++ (p ∷ [])) (firsts_ext P Q m (λ j a. h j (omega arith))) (h m (omega arith))
-
-pub pushed : (xs ys : List Float) (m : ℕ) (a b : Float) → m < length xs → m < length ys → firsts (row (set xs m a) (set ys m b)) (m + 1) ≡ firsts (row xs ys) m ++ (point a b ∷ [])
-unfolding firsts
-pushed xs ys m a b h k =
-    ap (firsts (row (set xs m a) (set ys m b))) (add-one m)
-    ∙ ap₂ (λ (l : List Point) (p : Point). l ++ (p ∷ [])) (firsts_ext (row (set xs m a) (set ys m b)) (row xs ys) m before)
-    (ap₂ point (get_or-set_same xs m a nan h) (get_or-set_same ys m b nan k))
-  where
-    other : (j : ℕ) → j < m → j ≢ m
-    other j l = omega arith
-
-    before : (j : ℕ) → j < m → row (set xs m a) (set ys m b) j ≡ row xs ys j
-    before j l = ap₂ point (get_or-set_other xs m j a nan (other j l)) (get_or-set_other ys m j b nan (other j l))
-
+-- ---- a row of points
 module _ (l : List DeclaredPoint.Point) (p : DeclaredPoint.Point) {r : Bool} (e : r ≡ is_finite p.y) where
   pub kept : {m : List DeclaredPoint.Point} → r ≡ true → m ≡ l ++ (p ∷ []) → map point_of m ≡ map point_of l ++ keep (is_finite p.y) (point_of p) []
   unfolding keep
@@ -105,64 +86,7 @@ module _ (f : Float → Float) (e p : Point) where
   unfolding subsamples
   row_done A j u h inv = sym (ap (λ (z : ℕ). counted (z - 1) (still A z)) h) ∙ inv
 
--- ---- a row that is reversed-if round
-abbrev back : (ℕ → Point) → ℕ → ℕ → Point
-back P m j = P (m - 1 - j)
-
-pub front : (P : ℕ → Point) (m : ℕ) → firsts P (suc m) ≡ P 0 ∷ firsts (λ (j : ℕ). P (suc j)) m
-unfolding firsts
-front P zero = refl
-front P (suc m) = ap (λ (l : List Point). l ++ (P (suc m) ∷ [])) (front P m)
-
-reverse_firsts : (P : ℕ → Point) (m : ℕ) → reverse (firsts P m) ≡ firsts (back P m) m
-unfolding firsts
-reverse_firsts P zero = refl
-reverse_firsts P (suc m) =
-    reverse-append (firsts P m) (P m ∷ [])
-    ∙ ap (λ (l : List Point). P m ∷ l) (reverse_firsts P m ∙ firsts_ext (back P m) (λ (j : ℕ). back P (suc m) (suc j)) m shift)
-    ∙ ap (λ (p : Point). p ∷ firsts (λ (j : ℕ). back P (suc m) (suc j)) m) (ap P top)
-    ∙ sym (front (back P (suc m)) m)
-  where
-    top : m ≡ suc m - 1 - 0
-    top = omega arith
-
-    shift : (j : ℕ) → j < m → P (m - 1 - j) ≡ P (suc m - 1 - suc j)
-    shift j h = ap P (same_place j h)
-      where
-        same_place : (j : ℕ) → j < m → m - 1 - j ≡ suc m - 1 - suc j
-        same_place j h = omega arith
-
-pub reversed_row : (P Q : ℕ → Point) (m : ℕ) → ((j : ℕ) → j < m → Q j ≡ P (m - 1 - j)) → firsts Q m ≡ reverse (firsts P m)
-reversed_row P Q m h = firsts_ext Q (back P m) m h ∙ sym (reverse_firsts P m)
-
-pub set_next : (b : List Float) (g : ℕ → Float) (k : ℕ) {v : Float} → v ≡ g k → k < length b → ((j : ℕ) → j < k → get_or b j nan ≡ g j) → (j : ℕ) → j < k + 1 → get_or (set b k v) j nan ≡ g j
-set_next b g k {v} e h inv j l = go (ℕ_discrete j k)
-  where
-    go : Dec (j ≡ k) → get_or (set b k v) j nan ≡ g j
-    go (yes d) = ap (λ (z : ℕ). get_or (set b k v) z nan) d ∙ get_or-set_same b k v nan h ∙ e ∙ ap g (sym d)
-    go (no n) = get_or-set_other b k j v nan n ∙ inv j (omega arith)
-
 -- ---- a scan reads only the row's samples
-pub firsts_length : (P : ℕ → Point) (m : ℕ) → length (firsts P m) ≡ m
-unfolding firsts
-firsts_length P zero = refl
-firsts_length P (suc m) = length-append (firsts P m) (P m ∷ []) ∙ omega (arith, firsts_length P m)
-
-firsts_at : (P : ℕ → Point) (m j : ℕ) (d : Point) → j < m → get_or (firsts P m) j d ≡ P j
-unfolding firsts
-firsts_at P zero j d h = absurd (not-suc-le-zero h)
-firsts_at P (suc m) j d h = go (ℕ_discrete j m) (λ l. firsts_at P m j d l)
-  where
-    go : Dec (j ≡ m) → (j < m → get_or (firsts P m) j d ≡ P j) → get_or (firsts P m ++ (P m ∷ [])) j d ≡ P j
-    go (yes e) ih = ap (λ (k : ℕ). get_or (firsts P m ++ (P m ∷ [])) k d) (e ∙ sym (firsts_length P m)) ∙ get_or-append_seam (firsts P m) (P m) [] d ∙ ap P (sym e)
-    go (no n) ih = get_or-append (firsts P m) (P m ∷ []) d j (inside n) ∙ ih (less n)
-      where
-        less : j ≢ m → j < m
-        less n = omega arith
-
-        inside : j ≢ m → j < length (firsts P m)
-        inside n = omega (arith, firsts_length P m)
-
 pub map-reverse : {A B : Type 0} (g : A → B) (l : List A) → map g (reverse l) ≡ reverse (map g l)
 map-reverse g [] = refl
 map-reverse g (a ∷ l) =
@@ -172,18 +96,18 @@ map-reverse g (a ∷ l) =
     ∙ sym (reverse-append (g a ∷ []) (map g l))
 
 -- a row that the code holds is scanned as the definition's list
-pub points_are : (l : List DeclaredPoint.Point) → points l ≡ row_at (map point_of l)
+pub points_are : (l : List DeclaredPoint.Point) → points_of l ≡ row_at (map point_of l)
 unfolding row_at
 points_are l = λ i k. sym (get_or-map point_of l k (record { x = nan; y = nan })) i
 
-row_scanned : (f : Float → Float) (o : Place → Origin) (l : List DeclaredPoint.Point) (m : ℕ) → m ≡ length l → scan_samples f o (points l) 0 m ≡ scan_row f o (map point_of l)
+row_scanned : (f : Float → Float) (o : Place → Origin) (l : List DeclaredPoint.Point) (m : ℕ) → m ≡ length l → scan_samples f o (points_of l) 0 m ≡ scan_row f o (map point_of l)
 unfolding scan_row
 row_scanned f o l m e =
     ap (λ (P : ℕ → Point). scan_samples f o P 0 m) (points_are l)
     ∙ ap (scan_samples f o (row_at (map point_of l)) 0) (e ∙ sym (length-map l point_of))
 
 -- The whole of an edge: b is the gap after the bisections, r the points of the row, l those of the row that is scanned, t the state after the scan.
-module _ (f : Float → Float) (o : Place → Origin) (g : Gap) (s : State) {b : Gap} {r : List Point} {t : State} (l : List DeclaredPoint.Point) (m : ℕ) (eb : with_count b 16 ≡ total (bisect f 16 g)) (er : with_count r 7 ≡ total (edge_points f b.inside g.inside)) (em : m ≡ length l) (et : t ≡ afterwards (spend (spend s 16) 7) (scan_samples f o (points l) 0 m)) where
+module _ (f : Float → Float) (o : Place → Origin) (g : Gap) (s : State) {b : Gap} {r : List Point} {t : State} (l : List DeclaredPoint.Point) (m : ℕ) (eb : with_count b 16 ≡ total (bisect f 16 g)) (er : with_count r 7 ≡ total (edge_points f b.inside g.inside)) (em : m ≡ length l) (et : t ≡ afterwards (spend (spend s 16) 7) (scan_samples f o (points_of l) 0 m)) where
   abbrev R : Asked (List Point)
   R = edge_row f (bisect f 16 g).value.inside g.inside
 

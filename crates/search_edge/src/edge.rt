@@ -1,6 +1,6 @@
 // The end of a branch between two grid samples: it is located by bisection, and the last stretch is
 // resampled densely towards it.
-ghost use Rattle.std.specs.Prelude.{◌≡◌, [], ◌++◌, map, ◌+◌, ◌<◌, ◌≤◌, length};
+ghost use Rattle.std.specs.Prelude.{◌≡◌, [], ◌++◌, map, ◌+◌, ◌<◌, ◌≤◌, ◌^◌};
 ghost use Rattle.arrayvec.specs.ArrayVec.{array_vec_len};
 ghost use Rattle.float.specs.Num.{◌⊕◌, ◌⊖◌, ◌⊗◌};
 ghost use Rattle.float.specs.Number.{is_finite};
@@ -10,13 +10,14 @@ ghost use Rattle.search_definition.specs.Search.{keep, if_inside, if_first_insid
 ghost use Rattle.search_error.specs.Fixed.{branch_error};
 ghost use Rattle.search_refine.specs.Counted.{with_count, total};
 ghost use Rattle.search_refine.specs.Point.{point_of};
-ghost use Rattle.search_pairs.specs.State.{Roomy, points, state, afterwards};
+ghost use Rattle.search_pairs.specs.Row.{points};
+ghost use Rattle.search_pairs.specs.State.{Roomy, state, afterwards};
 ghost use Rattle.search_edge.specs.State.{gap};
 
 use arrayvec::ArrayVec;
 use float::is_finite;
 use search_error::Branch;
-use search_pairs::SearchCounts;
+use search_pairs::{PairList, Row};
 use search_refine::Point;
 use search_scan::scan::scan_samples;
 
@@ -138,49 +139,29 @@ pub fn edge_row(branch: &Branch, e: Point, p: Point) -> ArrayVec<Point, 9>
 }
 
 // What is found towards the end of a branch, whose samples go from the left to the right.
-pub fn scan_edge(
-    branch: &Branch,
-    g: Gap,
-    qs: &mut [f64],
-    cs: &mut [u8],
-    f: SearchCounts,
-) -> SearchCounts
-    requires { Roomy 800000 f }
-    ensures { (o : Place → Origin) → ((p : Place) → component (o p) ≡ branch.now.i) → state qs.new cs.new result ≡ afterwards (state qs.old cs.old f) (edge_from (branch_error branch.now) o (gap g)) }
+pub fn scan_edge<const N: usize>(branch: &Branch, g: Gap, list: &mut PairList<N>)
+    requires { Roomy 800000 list.old }
+    ensures { (o : Place → Origin) → ((p : Place) → component (o p) ≡ branch.now.i) → state list.new ≡ afterwards (state list.old) (edge_from (branch_error branch.now) o (gap g)) }
 {
     let e = bisect(branch, g);
+    list.evals += HALVINGS;
     let mut row = edge_row(branch, e.inside, g.inside);
+    list.evals += SUBSAMPLES;
     if g.inside.x < e.inside.x {
         row.reverse();
     }
-    let evals = f.evals + HALVINGS + SUBSAMPLES;
-    scan_samples(
-        branch,
-        &row,
-        0,
-        row.len(),
-        qs,
-        cs,
-        SearchCounts { evals, ..f },
-    )
+    scan_samples(branch, Row::Edge(row.as_slice()), 0, row.len(), list);
 }
 
 // What is found at the edge, if there is one, between the grid's samples k and k + 1.
-pub fn edge_at(
-    branch: &Branch,
-    row: &[Point],
-    k: usize,
-    qs: &mut [f64],
-    cs: &mut [u8],
-    f: SearchCounts,
-) -> SearchCounts
-    requires { (k + 1 < length row.now) × Roomy 800000 f }
-    ensures { state qs.new cs.new result ≡ afterwards (state qs.old cs.old f) (edge_at (branch_error branch.now) branch.now.i (points row.now) k) }
+pub fn edge_at<const N: usize>(branch: &Branch, row: Row, k: usize, list: &mut PairList<N>)
+    requires { (k + 1 < 2 ^ 64) × Roomy 800000 list.old }
+    ensures { state list.new ≡ afterwards (state list.old) (edge_at (branch_error branch.now) branch.now.i (points row.entry) k) }
 {
-    let p = row[k];
-    let q = row[k + 1];
+    let p = row.at(k);
+    let q = row.at(k + 1);
     if is_finite(p.y) == is_finite(q.y) {
-        return f;
+        return;
     }
-    scan_edge(branch, Gap::beside(p, q), qs, cs, f)
+    scan_edge(branch, Gap::beside(p, q), list);
 }

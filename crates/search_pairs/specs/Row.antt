@@ -1,5 +1,5 @@
 -- The code's rows of samples in the definition's words.
-use Rattle.std.specs.Prelude.{List, [], ℕ, length, get_or}
+use Rattle.std.specs.Prelude.{List, [], ℕ, length, get_or, Float}
 use Rattle.std.specs.Float.{nan}
 use Rattle.search_definition.specs.Dip.{Point}
 use Rattle.search_refine.specs.Point.{point_of}
@@ -7,6 +7,9 @@ use Rattle.search_refine.specs.declared.Point as DeclaredPoint
 use Rattle.search_pairs.specs.declared.row.Sample as DeclaredSample
 use Rattle.search_pairs.specs.declared.row.Row as DeclaredRow
 use Rattle.search_pairs.specs.declared.row.Row.TheVariants.{Grid, Edge}
+
+abbrev pub point : Float → Float → Point
+point x y = record { x = x; y = y }
 
 -- what stands beyond the end of a row
 abbrev pub nowhere : Point
@@ -20,13 +23,13 @@ sampled i s = record { x = s.x; y = get_or s.y i nan }
 abbrev pub column : List DeclaredSample.Sample → ℕ → ℕ → Point
 column l i k = sampled i (get_or l k (record { x = nan; y = [] }))
 
--- the points of an edge
-abbrev pub edge_points : List DeclaredPoint.Point → ℕ → Point
-edge_points l k = point_of (get_or l k (record { x = nan; y = nan }))
+-- a list of points
+abbrev pub points_of : List DeclaredPoint.Point → ℕ → Point
+points_of l k = point_of (get_or l k (record { x = nan; y = nan }))
 
 abbrev pub points : DeclaredRow.Row → ℕ → Point
 points (Grid c) = column c.samples.now c.i
-points (Edge p) = edge_points p.now
+points (Edge p) = points_of p.now
 
 abbrev pub len_of : DeclaredRow.Row → ℕ
 len_of (Grid c) = length c.samples.now

@@ -1,68 +1,65 @@
 -- The steps of scan_samples, by what the code's tests and calls gave. Assumes nothing.
-use mathlib.Core.Path.{◌≡◌, refl, sym, ◌∙◌, ap}
-use mathlib.Core.Bool.{Bool, true, false, ◌&&◌, beq}
+use mathlib.Core.Path.{◌≡◌, refl, sym, ◌∙◌, ap, ap₂}
+use mathlib.Core.Bool.{Bool, true, false}
 use mathlib.Core.List.{◌++◌}
 use Prim.Native.Nat.{ℕ, zero, suc, ◌+◌, ◌-◌, ◌*◌, ◌≤◌, ◌<◌}
 use native.Mathlib.Omega.{arith}
 use native.Mathlib.Numerals.{add-one}
 use lib.ListN.{length, length-append}
-use lib.Ieee.{Float, nan, lt, le}
+use lib.Ieee.{Float, le}
 use Rattle.float.specs.Number.{abs}
 use Rattle.search_definition.specs.Found.{Part, Place, crossing, inner, last, first, Origin, Out, ◌then◌}
-use Rattle.search_definition.specs.Refine.{negative}
 use Rattle.search_definition.specs.Dip.{Point, refined, minimise_dip}
-use Rattle.search_definition.specs.Scan.{touch, alike, crosses, dips, falls_to, falls_back, if_dip, inner_dip, if_crosses, item, items, last_dip, first_dip, scan_samples}
+use Rattle.search_definition.specs.Scan.{crosses, dips, falls_to, falls_back, if_dip, inner_dip, if_crosses, item, items, last_dip, first_dip, scan_samples}
 use Rattle.search_definition.proofs.Bounds.{scan_slots}
-use Rattle.search_pairs.specs.State.{State, afterwards, point}
+use Rattle.search_pairs.specs.State.{State, afterwards}
 use Rattle.search_pairs.proofs.States.{after_nothing, after_two}
 
--- ---- the tests
-module _ (y0 y1 y2 : Float) {a b c : Float} {r1 r2 r3 : Bool} (ea : a ≡ abs y0) (eb : b ≡ abs y1) (ec : c ≡ abs y2) where
-  pub dips_is : r1 ≡ (lt b c && beq (negative y0) (negative y2)) → r2 ≡ (le b a && r1) → r3 ≡ (lt b touch && r2) → r3 ≡ dips (point nan y0) (point nan y1) (point nan y2)
-  unfolding dips alike
-  dips_is e1 e2 e3 = cc
-
-module _ (y0 y1 : Float) {a b : Float} {r1 r2 : Bool} (ea : a ≡ abs y0) (eb : b ≡ abs y1) where
-  pub falls_to_is : r1 ≡ (lt b touch && le b a) → r2 ≡ (beq (negative y0) (negative y1) && r1) → r2 ≡ falls_to (point nan y0) (point nan y1)
-  unfolding falls_to alike
-  falls_to_is e1 e2 = cc
-
-  pub falls_back_is : r1 ≡ (lt a touch && le a b) → r2 ≡ (beq (negative y0) (negative y1) && r1) → r2 ≡ falls_back (point nan y0) (point nan y1)
-  unfolding falls_back alike
-  falls_back_is e1 e2 = cc
-
--- ---- one place of a row: s is the state before, t the state after
-module _ (f : Float → Float) (o : Place → Origin) (P : ℕ → Point) (l : ℕ) (s : State) {t : State} where
-  pub item_crossing : (c : ℕ) {r : Bool} → r ≡ crosses (P l) (P (l + 1)) → r ≡ true → t ≡ afterwards s (refined f (o (crossing l)) (P l) (P (l + 1))) → t ≡ afterwards s (item f o P c l)
+-- ---- one place of a row, whose samples were read as p, q and u: s is the state before, t the state after
+module _ (f : Float → Float) (o : Place → Origin) (P : ℕ → Point) (l : ℕ) (s : State) {t : State} {p q : Point} (ep : p ≡ P l) (eq : q ≡ P (l + 1)) where
+  pub item_crossing : (c : ℕ) {r : Bool} → r ≡ crosses p q → r ≡ true → t ≡ afterwards s (refined f (o (crossing l)) p q) → t ≡ afterwards s (item f o P c l)
   unfolding item if_crosses
   item_crossing c e x d =
-      let z : crosses (P l) (P (l + 1)) ≡ true = sym e ∙ x in
+      let z : crosses (P l) (P (l + 1)) ≡ true = sym (e ∙ ap₂ crosses ep eq) ∙ x in
       let y : crosses (P l) (P (suc l)) ≡ true = rw (add-one l) at z in
-      (rw (add-one l) at d) ∙ sym (ap (λ (b : Bool). afterwards s (if_crosses f o P b c l)) y)
+      let w = d ∙ ap₂ (λ (x y : Point). afterwards s (refined f (o (crossing l)) x y)) ep eq in
+      (rw (add-one l) at w) ∙ sym (ap (λ (b : Bool). afterwards s (if_crosses f o P b c l)) y)
 
-  pub item_inner : (c : ℕ) {r : Bool} → r ≡ crosses (P l) (P (l + 1)) → r ≡ false → t ≡ afterwards s (inner_dip f o P c l) → t ≡ afterwards s (item f o P c l)
+  pub item_inner : (c : ℕ) {r : Bool} → r ≡ crosses p q → r ≡ false → t ≡ afterwards s (inner_dip f o P c l) → t ≡ afterwards s (item f o P c l)
   unfolding item if_crosses
   item_inner c e x d =
-      let z : crosses (P l) (P (l + 1)) ≡ false = sym e ∙ x in
+      let z : crosses (P l) (P (l + 1)) ≡ false = sym (e ∙ ap₂ crosses ep eq) ∙ x in
       let y : crosses (P l) (P (suc l)) ≡ false = rw (add-one l) at z in
       d ∙ sym (ap (λ (b : Bool). afterwards s (if_crosses f o P b c l)) y)
 
-  pub inner_is : (c : ℕ) {k : ℕ} {r : Bool} → c ≡ suc k → r ≡ dips (P l) (P (l + 1)) (P (l + 2)) → t ≡ afterwards s (if_dip f r (λ (h : Part). o (inner (suc l) h)) (P l) (P (l + 2))) → t ≡ afterwards s (inner_dip f o P c l)
+  pub inner_is : (c : ℕ) {k : ℕ} {r : Bool} {u : Point} → u ≡ P (l + 2) → c ≡ suc k → r ≡ dips p q u → t ≡ afterwards s (if_dip f r (λ (h : Part). o (inner (suc l) h)) p u) → t ≡ afterwards s (inner_dip f o P c l)
   unfolding inner_dip
-  inner_is c k e d =
+  inner_is c {k} {r} {u} eu n e d =
       let two : l + 2 ≡ suc (suc l) = omega arith in
-      let w = d ∙ ap (λ (b : Bool). afterwards s (if_dip f b (λ (h : Part). o (inner (suc l) h)) (P l) (P (l + 2)))) e in
-      (rw (add-one l, two) at w) ∙ sym (ap (λ (n : ℕ). afterwards s (inner_dip f o P n l)) k)
+      let test : r ≡ dips (P l) (P (l + 1)) (P (l + 2)) = e ∙ ap₂ (λ (x y : Point). dips x y u) ep eq ∙ ap (dips (P l) (P (l + 1))) eu in
+      let w =
+      d
+      ∙ ap₂ (λ (x y : Point). afterwards s (if_dip f r (λ (h : Part). o (inner (suc l) h)) x y)) ep eu
+      ∙ ap (λ (b : Bool). afterwards s (if_dip f b (λ (h : Part). o (inner (suc l) h)) (P l) (P (l + 2)))) test in
+      (rw (add-one l, two) at w) ∙ sym (ap (λ (n : ℕ). afterwards s (inner_dip f o P n l)) n)
 
-  pub last_is : {r : Bool} → r ≡ falls_to (P l) (P (l + 1)) → t ≡ afterwards s (if_dip f r (λ (h : Part). o (last l h)) (P l) (P (l + 1))) → t ≡ afterwards s (last_dip f o P l)
+  pub last_is : {r : Bool} → r ≡ falls_to p q → t ≡ afterwards s (if_dip f r (λ (h : Part). o (last l h)) p q) → t ≡ afterwards s (last_dip f o P l)
   unfolding last_dip
-  last_is e d =
-      let w = d ∙ ap (λ (b : Bool). afterwards s (if_dip f b (λ (h : Part). o (last l h)) (P l) (P (l + 1)))) e in rw (add-one l) at w
+  last_is {r} e d =
+      let w =
+      d
+      ∙ ap₂ (λ (x y : Point). afterwards s (if_dip f r (λ (h : Part). o (last l h)) x y)) ep eq
+      ∙ ap (λ (b : Bool). afterwards s (if_dip f b (λ (h : Part). o (last l h)) (P l) (P (l + 1)))) (e ∙ ap₂ falls_to ep eq) in
+      rw (add-one l) at w
 
-  pub first_is : {r : Bool} → r ≡ falls_back (P l) (P (l + 1)) → t ≡ afterwards s (if_dip f r (λ (h : Part). o (first l h)) (P l) (P (l + 1))) → t ≡ afterwards s (first_dip f o P l)
+  pub first_is : {r : Bool} → r ≡ falls_back p q → t ≡ afterwards s (if_dip f r (λ (h : Part). o (first l h)) p q) → t ≡ afterwards s (first_dip f o P l)
   unfolding first_dip
-  first_is e d =
-      let w = d ∙ ap (λ (b : Bool). afterwards s (if_dip f b (λ (h : Part). o (first l h)) (P l) (P (l + 1)))) e in rw (add-one l) at w
+  first_is {r} e d =
+      let w =
+      d
+      ∙ ap₂ (λ (x y : Point). afterwards s (if_dip f r (λ (h : Part). o (first l h)) x y)) ep eq
+      ∙ ap (λ (b : Bool). afterwards s (if_dip f b (λ (h : Part). o (first l h)) (P l) (P (l + 1)))) (e ∙ ap₂ falls_back ep eq) in
+      rw (add-one l) at w
 
 pub inner_none : (f : Float → Float) (o : Place → Origin) (P : ℕ → Point) (l : ℕ) (s : State) (c : ℕ) → c ≡ 0 → s ≡ afterwards s (inner_dip f o P c l)
 unfolding inner_dip

@@ -1,17 +1,18 @@
 // scan_samples: sign changes and shallow dips along a row of finite samples, with touch = 0.5.
-ghost use Rattle.std.specs.Prelude.{◌≡◌, ◌<◌, ◌≤◌, ◌+◌, ◌-◌, length};
+ghost use Rattle.std.specs.Prelude.{◌≡◌, ◌<◌, ◌≤◌, ◌+◌, ◌-◌, ◌^◌};
 ghost use Rattle.std.specs.Float.{nan};
 ghost use Rattle.search_definition.specs.Found.{Part, Place, Origin, component};
 ghost use Rattle.search_definition.specs.Scan as Scan;
 ghost use Rattle.search_definition.specs.Scan.{falls_to, falls_back, if_dip, item, last_dip, first_dip, scan_samples};
 ghost use Rattle.search_error.specs.Fixed.{branch_error};
 ghost use Rattle.search_refine.specs.Point.{point_of};
-ghost use Rattle.search_pairs.specs.State.{Roomy, point, points, state, afterwards};
+ghost use Rattle.search_pairs.specs.Row.{point, points};
+ghost use Rattle.search_pairs.specs.State.{Roomy, state, afterwards};
 
 use float::abs;
 use search_dip::dip::minimise_dip;
 use search_error::Branch;
-use search_pairs::{SearchCounts, put_refined};
+use search_pairs::{PairList, Row};
 use search_refine::Point;
 
 const TOUCH: f64 = 0.5;
@@ -49,106 +50,82 @@ pub fn falls_back(y0: f64, y1: f64) -> bool
 
 // The dip between two samples, where the test held.
 #[tactic(auto, using(crate::proofs::ScanSteps::dip_held, crate::proofs::ScanSteps::dip_not_held))]
-pub fn dip_if(
+pub fn dip_if<const N: usize>(
     branch: &Branch,
     held: bool,
     a: Point,
     b: Point,
-    qs: &mut [f64],
-    cs: &mut [u8],
-    f: SearchCounts,
-) -> SearchCounts
-    requires { Roomy 1000000 f }
-    ensures { (o : Part → Origin) → ((h : Part) → component (o h) ≡ branch.now.i) → state qs.new cs.new result ≡ afterwards (state qs.old cs.old f) (if_dip (branch_error branch.now) held o (point_of a) (point_of b)) }
+    list: &mut PairList<N>,
+)
+    requires { Roomy 1000000 list.old }
+    ensures { (o : Part → Origin) → ((h : Part) → component (o h) ≡ branch.now.i) → state list.new ≡ afterwards (state list.old) (if_dip (branch_error branch.now) held o (point_of a) (point_of b)) }
 {
     if held {
-        return minimise_dip(branch, a, b, qs, cs, f);
+        minimise_dip(branch, a, b, list);
     }
-    f
 }
 
 // What is found between the samples l and l + 1 of a row that ends before `end`.
-pub fn scan_item(
+pub fn scan_item<const N: usize>(
     branch: &Branch,
-    row: &[Point],
+    row: Row,
     l: usize,
     end: usize,
-    qs: &mut [f64],
-    cs: &mut [u8],
-    f: SearchCounts,
-) -> SearchCounts
-    requires { (l + 1 < end) × (end ≤ length row.now) × Roomy 1000000 f }
-    ensures { (o : Place → Origin) → ((p : Place) → component (o p) ≡ branch.now.i) → state qs.new cs.new result ≡ afterwards (state qs.old cs.old f) (item (branch_error branch.now) o (points row.now) (end - (l + 2)) l) }
+    list: &mut PairList<N>,
+)
+    requires { (l + 1 < end) × Roomy 1000000 list.old }
+    ensures { (o : Place → Origin) → ((p : Place) → component (o p) ≡ branch.now.i) → state list.new ≡ afterwards (state list.old) (item (branch_error branch.now) o (points row.entry) (end - (l + 2)) l) }
 {
-    let a = row[l];
-    let b = row[l + 1];
+    let a = row.at(l);
+    let b = row.at(l + 1);
     if crosses(a.y, b.y) {
-        return put_refined(branch, a, b, qs, cs, f);
+        list.put_refined(branch, a, b);
+    } else if l + 2 < end {
+        let c = row.at(l + 2);
+        dip_if(branch, dips(a.y, b.y, c.y), a, c, list);
     }
-    if l + 2 < end {
-        let c = row[l + 2];
-        return dip_if(branch, dips(a.y, b.y, c.y), a, c, qs, cs, f);
-    }
-    f
 }
 
 // A dip that goes on past the last sample, l + 1.
-pub fn last_dip(
-    branch: &Branch,
-    row: &[Point],
-    l: usize,
-    qs: &mut [f64],
-    cs: &mut [u8],
-    f: SearchCounts,
-) -> SearchCounts
-    requires { (l + 1 < length row.now) × Roomy 1000000 f }
-    ensures { (o : Place → Origin) → ((p : Place) → component (o p) ≡ branch.now.i) → state qs.new cs.new result ≡ afterwards (state qs.old cs.old f) (last_dip (branch_error branch.now) o (points row.now) l) }
+pub fn last_dip<const N: usize>(branch: &Branch, row: Row, l: usize, list: &mut PairList<N>)
+    requires { Roomy 1000000 list.old }
+    ensures { (o : Place → Origin) → ((p : Place) → component (o p) ≡ branch.now.i) → state list.new ≡ afterwards (state list.old) (last_dip (branch_error branch.now) o (points row.entry) l) }
 {
-    let a = row[l];
-    let b = row[l + 1];
-    dip_if(branch, falls_to(a.y, b.y), a, b, qs, cs, f)
+    let a = row.at(l);
+    let b = row.behind(l, 1);
+    dip_if(branch, falls_to(a.y, b.y), a, b, list);
 }
 
 // A dip that comes from before the first sample, l.
-pub fn first_dip(
-    branch: &Branch,
-    row: &[Point],
-    l: usize,
-    qs: &mut [f64],
-    cs: &mut [u8],
-    f: SearchCounts,
-) -> SearchCounts
-    requires { (l + 1 < length row.now) × Roomy 1000000 f }
-    ensures { (o : Place → Origin) → ((p : Place) → component (o p) ≡ branch.now.i) → state qs.new cs.new result ≡ afterwards (state qs.old cs.old f) (first_dip (branch_error branch.now) o (points row.now) l) }
+pub fn first_dip<const N: usize>(branch: &Branch, row: Row, l: usize, list: &mut PairList<N>)
+    requires { Roomy 1000000 list.old }
+    ensures { (o : Place → Origin) → ((p : Place) → component (o p) ≡ branch.now.i) → state list.new ≡ afterwards (state list.old) (first_dip (branch_error branch.now) o (points row.entry) l) }
 {
-    let a = row[l];
-    let b = row[l + 1];
-    dip_if(branch, falls_back(a.y, b.y), a, b, qs, cs, f)
+    let a = row.at(l);
+    let b = row.behind(l, 1);
+    dip_if(branch, falls_back(a.y, b.y), a, b, list);
 }
 
 // What the m samples from s on add. The contract says it for every way o to name the places of a
 // row, so that the grid and an edge can name their own; the state is the pairs listed so far and the
 // evaluations, and the counts are so low that no counter overflows.
-pub fn scan_samples(
+pub fn scan_samples<const N: usize>(
     branch: &Branch,
-    row: &[Point],
+    row: Row,
     s: usize,
     m: usize,
-    qs: &mut [f64],
-    cs: &mut [u8],
-    f: SearchCounts,
-) -> SearchCounts
-    requires { (s + m ≤ length row.now) × (m ≤ 401) × Roomy 900000 f }
-    ensures { (o : Place → Origin) → ((p : Place) → component (o p) ≡ branch.now.i) → state qs.new cs.new result ≡ afterwards (state qs.old cs.old f) (scan_samples (branch_error branch.now) o (points row.now) s m) }
+    list: &mut PairList<N>,
+)
+    requires { (s + m < 2 ^ 64) × (m ≤ 401) × Roomy 900000 list.old }
+    ensures { (o : Place → Origin) → ((p : Place) → component (o p) ≡ branch.now.i) → state list.new ≡ afterwards (state list.old) (scan_samples (branch_error branch.now) o (points row.entry) s m) }
 {
     if m < 2 {
-        return f;
+        return;
     }
     let end = s + m;
-    let mut g = f;
     for l in s..end - 1 {
-        g = scan_item(branch, row, l, end, qs, cs, g);
+        scan_item(branch, row, l, end, list);
     }
-    g = last_dip(branch, row, end - 2, qs, cs, g);
-    first_dip(branch, row, s, qs, cs, g)
+    last_dip(branch, row, end - 2, list);
+    first_dip(branch, row, s, list);
 }

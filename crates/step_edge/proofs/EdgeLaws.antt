@@ -9,7 +9,7 @@ use Rattle.float.specs.Number.{is_finite}
 use Rattle.search_definition.specs.Found.{Place, Origin}
 use Rattle.search_definition.specs.Dip.{Point}
 use Rattle.search_definition.specs.Search.{Gap, mid, if_inside, keep, reversed_if, share, row_at}
-use Rattle.search_pairs.specs.Row.{edge_points}
+use Rattle.search_pairs.specs.Row.{points_of}
 use Rattle.search_edge.proofs.EdgeSteps.{points_are}
 use Rattle.search_steps.specs.ScanSteps.{Scan, last_pair, scan_angle, scan_next, scan_way}
 use Rattle.search_steps.specs.EdgeSteps.{Edge, halving, taking, in_row, sub_angle, row_way, take_way, halve_way, edge_angle, edge_next, edge_way}
@@ -119,28 +119,28 @@ module _ (r q : List DeclaredPoint.Point) (f c : ℕ) (eq : q ≡ r) (ef : f ≡
   length_is : length r ≡ length l
   length_is = sym (length-map r point_of)
 
-  pub row_asks : (o : Place → Origin) (p : Point) (z : DeclaredScan.Scan) {a : Float} → a ≡ scan_angle o (edge_points q) f (last_pair f c) (scan_of (last_pair f c) z) → a ≡ edge_angle o p (in_row l (of_scan z))
+  pub row_asks : (o : Place → Origin) (p : Point) (z : DeclaredScan.Scan) {a : Float} → a ≡ scan_angle o (points_of q) f (last_pair f c) (scan_of (last_pair f c) z) → a ≡ edge_angle o p (in_row l (of_scan z))
   unfolding edge_angle
   row_asks o p z {a} d =
-      of_row (λ (q : List DeclaredPoint.Point) (f c : ℕ). a ≡ scan_angle o (edge_points q) f (last_pair f c) (scan_of (last_pair f c) z)) d
+      of_row (λ (q : List DeclaredPoint.Point) (f c : ℕ). a ≡ scan_angle o (points_of q) f (last_pair f c) (scan_of (last_pair f c) z)) d
       ∙ ap (λ (P : ℕ → Point). scan_angle o P 0 (last_pair 0 (length r)) (of_scan z)) (points_are r)
       ∙ ap (λ (n : ℕ). scan_angle o (row_at l) 0 (last_pair 0 n) (of_scan z)) length_is
 
   module _ (room : ℕ) (o : Place → Origin) (p : Point) (h k : List Found) (s : Option DeclaredScan.Scan) (t : Option Declared.Edge) (m : t ≡ option_map InRow s) where
-    pub row_scans : came (scan_of (last_pair f c)) k s ≡ landed room h (scan_way o (edge_points q) f c) → came (edge_of r) k t ≡ landed room h (row_way o p l)
+    pub row_scans : came (scan_of (last_pair f c)) k s ≡ landed room h (scan_way o (points_of q) f c) → came (edge_of r) k t ≡ landed room h (row_way o p l)
     unfolding row_way
     row_scans d =
         part_ends room of_scan (edge_of r) InRow (in_row l) h k (scan_way o (row_at l) 0 (length l)) (λ _. refl) s t
-        (of_row (λ (q : List DeclaredPoint.Point) (f c : ℕ). came (scan_of (last_pair f c)) k s ≡ landed room h (scan_way o (edge_points q) f c)) d
+        (of_row (λ (q : List DeclaredPoint.Point) (f c : ℕ). came (scan_of (last_pair f c)) k s ≡ landed room h (scan_way o (points_of q) f c)) d
         ∙ ap (λ (P : ℕ → Point). landed room h (scan_way o P 0 (length r))) (points_are r)
         ∙ ap (λ (n : ℕ). landed room h (scan_way o (row_at l) 0 n)) length_is)
         m
 
-    pub row_steps : (z : DeclaredScan.Scan) (y : Float) → came (scan_of (last_pair f c)) k s ≡ landed room h (scan_next o (edge_points q) f (last_pair f c) (scan_of (last_pair f c) z) y) → came (edge_of r) k t ≡ landed room h (edge_next o p (in_row l (of_scan z)) y)
+    pub row_steps : (z : DeclaredScan.Scan) (y : Float) → came (scan_of (last_pair f c)) k s ≡ landed room h (scan_next o (points_of q) f (last_pair f c) (scan_of (last_pair f c) z) y) → came (edge_of r) k t ≡ landed room h (edge_next o p (in_row l (of_scan z)) y)
     unfolding edge_next
     row_steps z y d =
         part_ends room of_scan (edge_of r) InRow (in_row l) h k (scan_next o (row_at l) 0 (last_pair 0 (length l)) (of_scan z) y) (λ _. refl) s t
-        (of_row (λ (q : List DeclaredPoint.Point) (f c : ℕ). came (scan_of (last_pair f c)) k s ≡ landed room h (scan_next o (edge_points q) f (last_pair f c) (scan_of (last_pair f c) z) y)) d
+        (of_row (λ (q : List DeclaredPoint.Point) (f c : ℕ). came (scan_of (last_pair f c)) k s ≡ landed room h (scan_next o (points_of q) f (last_pair f c) (scan_of (last_pair f c) z) y)) d
         ∙ ap (λ (P : ℕ → Point). landed room h (scan_next o P 0 (last_pair 0 (length r)) (of_scan z) y)) (points_are r)
         ∙ ap (λ (n : ℕ). landed room h (scan_next o (row_at l) 0 (last_pair 0 n) (of_scan z) y)) length_is)
         m

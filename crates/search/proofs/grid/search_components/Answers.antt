@@ -1,33 +1,26 @@
--- Each component adds at most 11 n pairs and 782 n evaluations.
-use Rattle.std.proofs.Common.{arith}
+-- Each component goes on from those before it.
+use Rattle.std.proofs.Common.{refl, arith}
 use Rattle.search_error.specs.Fixed.{error_at}
-use Rattle.search.specs.State.{points, state}
-use Rattle.search_pairs.proofs.States.{after_two}
-use Rattle.search.proofs.GridSteps.{few_more}
+use Rattle.search.specs.State.{column, state}
+use Rattle.search.proofs.GridSteps.{component_next, components_end, few_more}
 use Rattle.search.proofs.grid.search_components.Goals as goal
 
-pub search_component-f1-requires : goal.search_component-f1-requires
-search_component-f1-requires c =
-    let a = c.args in
-    let few = few_more (error_at a.fixed.now 0) 0 (points a.r0.now) a.n (state a.qs.now a.cs.now a.f) _ c.search_component-f0.ensures in
-    omega (arith, few, c.requires)
-
-pub search_component-f2-requires : goal.search_component-f2-requires
-search_component-f2-requires c =
-    let a = c.args in
-    let few = few_more (error_at a.fixed.now 0) 0 (points a.r0.now) a.n (state a.qs.now a.cs.now a.f) _ c.search_component-f0.ensures in
-    let few1 = few_more (error_at a.fixed.now 1) 1 (points a.r1.now) a.n _ _ c.search_component-f1.ensures in
-    omega (arith, few1, few, c.requires)
+pub loop-i-init : goal.loop-i-init
+loop-i-init g c = (omega arith, omega arith, refl)
 
 pub search_component-requires : goal.search_component-requires
-search_component-requires c =
+search_component-requires g c = omega (arith, c.loop-i.invariant.0, c.loop-i.invariant.1, c.requires, c.loop-i-test.true)
+
+pub loop-i-preserved : goal.loop-i-preserved
+loop-i-preserved g c =
     let a = c.args in
-    let few = few_more (error_at a.fixed.now 0) 0 (points a.r0.now) a.n (state a.qs.now a.cs.now a.f) _ c.search_component-f0.ensures in
-    let few1 = few_more (error_at a.fixed.now 1) 1 (points a.r1.now) a.n _ _ c.search_component-f1.ensures in
-    let few2 = few_more (error_at a.fixed.now 2) 2 (points a.r2.now) a.n _ _ c.search_component-f2.ensures in
-    omega (arith, few2, few1, few, c.requires)
+    let err = error_at a.fixed.now in
+    let i = c.loop-i.i in
+    let few = few_more (err i) i (column a.samples.now i) a.n (state c.loop-i.list) _ c.search_component.ensures in (
+      omega (arith, few.0, c.loop-i.invariant.0, c.requires),
+      omega (arith, few.1, c.loop-i.invariant.1, c.requires),
+      component_next err a.n (column a.samples.now) i (state c.loop-i.list) c.loop-i-test.true c.loop-i.invariant.2 c.search_component.ensures,
+    )
 
 pub returns : goal.returns
-returns c =
-    let a = c.args in
-    after_two (state a.qs.now a.cs.now a.f) _ _ c.search_component-f0.ensures (after_two _ _ _ c.search_component-f1.ensures (after_two _ _ _ c.search_component-f2.ensures c.search_component.ensures))
+returns g c = components_end (error_at c.args.fixed.now) c.args.n (column c.args.samples.now) c.loop-i.i (state c.loop-i.list) c.loop-i-test.false c.loop-i.invariant.2

@@ -12,16 +12,16 @@ use Rattle.search_edge.proofs.edge.scan_edge.Goals as goal
 use Rattle.search_edge.proofs.edge.scan_edge.Goals.{then-g-e, else-g-e}
 
 pub returns : goal.returns
-returns c =
+returns g c =
     let a = c.args in
     let f = branch_error a.branch.now in
-    let s = state a.qs.now a.cs.now a.f in
-    let l = c.deref.result.now in
-    let long : c.len.result ≡ length l = c.len.ensures.value ∙ sym (ap length c.deref.ensures.0) in
+    let s = state a.list.now in
+    let l = c.as_slice.result.now in
+    let long : c.len.result ≡ length l = c.len.ensures.value ∙ sym (ap length c.as_slice.ensures.value) in
     λ o e.
     elim c.if-g-e.branch [
       | then-g-e w ↦ edge_reversed f o (gap a.g) s l c.len.result c.bisect-e.ensures c.edge_row-row.ensures long (c.scan_samples.ensures o e) w.if-g-e.true
-          (ap (map point_of) (c.deref.ensures.0 ∙ ap (λ (v : ArrayVec DeclaredPoint.Point). v.items) w.row-is ∙ items-with_items c.edge_row-row.result w.reverse.new.self (w.reverse.ensures.len ∙ ap length w.deref_mut.ensures.value) ∙ w.reverse.ensures.after ∙ ap reverse w.deref_mut.ensures.value) ∙ map-reverse point_of c.edge_row-row.result.items)
+          (ap (map point_of) (c.as_slice.ensures.value ∙ ap (λ (v : ArrayVec DeclaredPoint.Point). v.items) w.row-is ∙ items-with_items c.edge_row-row.result w.reverse.new.self (w.reverse.ensures.len ∙ ap length w.deref_mut.ensures.value) ∙ w.reverse.ensures.after ∙ ap reverse w.deref_mut.ensures.value) ∙ map-reverse point_of c.edge_row-row.result.items)
       | else-g-e w ↦ edge_straight f o (gap a.g) s l c.len.result c.bisect-e.ensures c.edge_row-row.ensures long (c.scan_samples.ensures o e) w.if-g-e.false
-          (ap (map point_of) (c.deref.ensures.0 ∙ ap (λ (v : ArrayVec DeclaredPoint.Point). v.items) w.row-is))
+          (ap (map point_of) (c.as_slice.ensures.value ∙ ap (λ (v : ArrayVec DeclaredPoint.Point). v.items) w.row-is))
     ]
