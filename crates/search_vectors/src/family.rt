@@ -3,7 +3,8 @@ ghost use Rattle.std.specs.Prelude.{◌<◌, ◌≤◌};
 
 use crate::record;
 use cases::Tally;
-use full_list::Task;
+use full_list::{FullList, PairList, Task};
+use limits::Limits;
 use refusals::Family;
 
 fn is_answer(book: &[u8; 1830400], j: usize, angles: &[f64; 105600], flag: u8) -> bool
@@ -47,15 +48,14 @@ fn write_answers(
     angles: &mut [f64; 105600],
     flags: &mut [u8; 17600],
 ) -> Counts {
-    let mut qs = [0.0; 17600];
-    let mut cs = [0u8; 17600];
     let arm = record::arm_numbers(head);
     let pose = record::pose_numbers(head);
     let task = Task::new(Family::TwoParallel, n as u64, &arm, &pose);
-    let pairs = full_list::search(&task, &mut qs, &mut cs);
+    let mut list = PairList::new();
+    let found = FullList::Searched(full_list::search(&task, &mut list));
     Counts {
-        answers: pairs.write_allowed(&[], angles, flags),
-        evals: pairs.evals,
+        answers: found.write_allowed(Limits::none(), angles, flags),
+        evals: found.evals(),
     }
 }
 

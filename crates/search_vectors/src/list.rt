@@ -3,19 +3,20 @@ ghost use Rattle.std.specs.Prelude.{◌≤◌};
 
 use crate::record;
 use cases::Tally;
-use search::SearchCounts;
+use search::PairList;
 
-fn check_pairs(
-    book: &[u8; 1830400],
-    m: usize,
-    qs: &[f64; 17600],
-    cs: &[u8; 17600],
-    tally: &mut Tally,
-)
+// How many pairs a search lists, and its evaluations.
+#[derive(Clone, Copy)]
+pub(crate) struct Counts {
+    pub(crate) pairs: u64,
+    pub(crate) evals: u64,
+}
+
+fn check_pairs(book: &[u8; 1830400], m: usize, list: &PairList<17600>, tally: &mut Tally)
     requires { m ≤ 17600 }
 {
     for j in 0..m {
-        let ok = record::is_pair(book, j, qs[j], cs[j]);
+        let ok = record::is_pair(book, j, list.angles[j], list.components[j]);
         cases::count(tally, record::CHECKS, record::PAIR, ok);
     }
 }
@@ -26,17 +27,19 @@ pub(crate) fn check(
     n: usize,
     m: usize,
     tally: &mut Tally,
-) -> SearchCounts
+) -> Counts
     requires { m ≤ 17600 }
 {
-    let mut qs = [0.0; 17600];
-    let mut cs = [0u8; 17600];
+    let mut list: PairList<17600> = PairList::new();
     let kin = record::arm(head);
     let r = record::rotation(head);
     let p = record::place(head);
-    let f = search::search_two_parallel(kin, r, p, n, &mut qs, &mut cs);
-    let ok = record::counts(head, f.pairs as u64, f.evals);
+    search::search_two_parallel(kin, r, p, n, &mut list);
+    let ok = record::counts(head, list.pairs as u64, list.evals);
     cases::count(tally, record::CHECKS, record::SEARCHES, ok);
-    check_pairs(book, m, &qs, &cs, tally);
-    f
+    check_pairs(book, m, &list, tally);
+    Counts {
+        pairs: list.pairs as u64,
+        evals: list.evals,
+    }
 }

@@ -57,7 +57,7 @@ fn check_search(
     requires { (n ≤ 400) × (m ≤ 17600) }
 {
     let f = list::check(head, book, n, m, tally);
-    most.pairs = most.pairs.max(f.pairs as u64);
+    most.pairs = most.pairs.max(f.pairs);
     most.evals = most.evals.max(f.evals);
     parts::check(head, book, n, m, tally);
     family::check(head, book, n, m, tally);

@@ -6,15 +6,14 @@ ghost use Rattle.std.specs.Prelude.{◌<◌, ◌≤◌};
 use crate::{place, record, rows};
 use cases::Tally;
 use float::is_finite;
-use search::SearchCounts;
+use search::PairList;
 use search_error::{Branch, Fixed};
-use search_refine::Point;
+use search_pairs::{Column, Row, Sample};
 
 fn check_rows(
     book: &[u8; 1830400],
     m: usize,
-    qs: &[f64; 17600],
-    cs: &[u8; 17600],
+    list: &PairList<17600>,
     rows: &[u64; 17600],
     tally: &mut Tally,
 )
@@ -22,7 +21,7 @@ fn check_rows(
 {
     for j in 0..m {
         let is_row = record::word(book, j, record::ROW) == rows[j];
-        let ok = is_row && record::is_pair(book, j, qs[j], cs[j]);
+        let ok = is_row && record::is_pair(book, j, list.angles[j], list.components[j]);
         cases::count(tally, record::CHECKS, record::ROWS, ok);
     }
 }
@@ -48,12 +47,12 @@ fn crosses(y0: f64, y1: f64) -> bool {
     is_finite(y0) && is_finite(y1) && (y0 < 0.0) != (y1 < 0.0)
 }
 
-fn crossings(row: &[Point; 401], n: usize) -> u64
+fn crossings(row: Row, n: usize) -> u64
     requires { n ≤ 400 }
 {
     let mut count = 0u64;
     for k in 0..n {
-        if crosses(row[k].y, row[k + 1].y) {
+        if crosses(row.at(k).y, row.at(k + 1).y) {
             count = count.wrapping_add(1);
         }
     }
@@ -64,7 +63,7 @@ fn crossings(row: &[Point; 401], n: usize) -> u64
 fn check_places(
     branch: &Branch,
     n: usize,
-    row: &[Point; 401],
+    row: Row,
     book: &[u8; 1830400],
     m: usize,
     tally: &mut Tally,
@@ -85,125 +84,35 @@ fn check_places(
 fn check_components(
     fixed: &Fixed,
     n: usize,
-    r0: &[Point; 401],
-    r1: &[Point; 401],
-    r2: &[Point; 401],
-    r3: &[Point; 401],
+    samples: &[Sample],
     book: &[u8; 1830400],
     m: usize,
     tally: &mut Tally,
 )
     requires { (n ≤ 400) × (m ≤ 17600) }
 {
-    check_places(
-        &Branch {
-            fixed: *fixed,
-            i: 0,
-        },
-        n,
-        r0,
-        book,
-        m,
-        tally,
-    );
-    check_places(
-        &Branch {
-            fixed: *fixed,
-            i: 1,
-        },
-        n,
-        r1,
-        book,
-        m,
-        tally,
-    );
-    check_places(
-        &Branch {
-            fixed: *fixed,
-            i: 2,
-        },
-        n,
-        r2,
-        book,
-        m,
-        tally,
-    );
-    check_places(
-        &Branch {
-            fixed: *fixed,
-            i: 3,
-        },
-        n,
-        r3,
-        book,
-        m,
-        tally,
-    );
+    for i in 0..4u8 {
+        let branch = Branch { fixed: *fixed, i };
+        let row = Row::Grid(Column { samples, i });
+        check_places(&branch, n, row, book, m, tally);
+    }
 }
 
 // The rows' pairs, one after the other.
 fn list(
     fixed: &Fixed,
     n: usize,
-    r0: &[Point; 401],
-    r1: &[Point; 401],
-    r2: &[Point; 401],
-    r3: &[Point; 401],
-    qs: &mut [f64; 17600],
-    cs: &mut [u8; 17600],
+    samples: &[Sample],
+    list: &mut PairList<17600>,
     rows: &mut [u64; 17600],
-    f: SearchCounts,
-) -> SearchCounts
+)
     requires { n ≤ 400 }
 {
-    let f0 = rows::component(
-        &Branch {
-            fixed: *fixed,
-            i: 0,
-        },
-        n,
-        r0,
-        qs,
-        cs,
-        rows,
-        f,
-    );
-    let f1 = rows::component(
-        &Branch {
-            fixed: *fixed,
-            i: 1,
-        },
-        n,
-        r1,
-        qs,
-        cs,
-        rows,
-        f0,
-    );
-    let f2 = rows::component(
-        &Branch {
-            fixed: *fixed,
-            i: 2,
-        },
-        n,
-        r2,
-        qs,
-        cs,
-        rows,
-        f1,
-    );
-    rows::component(
-        &Branch {
-            fixed: *fixed,
-            i: 3,
-        },
-        n,
-        r3,
-        qs,
-        cs,
-        rows,
-        f2,
-    )
+    for i in 0..4u8 {
+        let branch = Branch { fixed: *fixed, i };
+        let row = Row::Grid(Column { samples, i });
+        rows::component(&branch, n, row, list, rows);
+    }
 }
 
 // They are the whole list, and their evaluations and the grid's are all.
@@ -211,10 +120,7 @@ fn check_list(
     head: &[u8; 432],
     fixed: &Fixed,
     n: usize,
-    r0: &[Point; 401],
-    r1: &[Point; 401],
-    r2: &[Point; 401],
-    r3: &[Point; 401],
+    samples: &[Sample],
     book: &[u8; 1830400],
     m: usize,
     evals: u64,
@@ -222,14 +128,13 @@ fn check_list(
 )
     requires { (n ≤ 400) × (m ≤ 17600) }
 {
-    let mut qs = [0.0; 17600];
-    let mut cs = [0u8; 17600];
+    let mut pairs: PairList<17600> = PairList::new();
     let mut rows = [0u64; 17600];
-    let none = SearchCounts { pairs: 0, evals };
-    let f = list(fixed, n, r0, r1, r2, r3, &mut qs, &mut cs, &mut rows, none);
-    let ok = record::counts(head, f.pairs as u64, f.evals);
+    pairs.evals = evals;
+    list(fixed, n, samples, &mut pairs, &mut rows);
+    let ok = record::counts(head, pairs.pairs as u64, pairs.evals);
     cases::count(tally, record::CHECKS, record::PARTS, ok);
-    check_rows(book, m, &qs, &cs, &rows, tally);
+    check_rows(book, m, &pairs, &rows, tally);
 }
 
 fn fixed(head: &[u8; 432]) -> Fixed {
@@ -244,12 +149,8 @@ pub(crate) fn check(head: &[u8; 432], book: &[u8; 1830400], n: usize, m: usize, 
     requires { (n ≤ 400) × (m ≤ 17600) }
 {
     let from = fixed(head);
-    let none = Point { x: 0.0, y: 0.0 };
-    let mut r0 = [none; 401];
-    let mut r1 = [none; 401];
-    let mut r2 = [none; 401];
-    let mut r3 = [none; 401];
-    let evals = search::sample_grid(&from, n, &mut r0, &mut r1, &mut r2, &mut r3);
-    check_list(head, &from, n, &r0, &r1, &r2, &r3, book, m, evals, tally);
-    check_components(&from, n, &r0, &r1, &r2, &r3, book, m, tally);
+    let mut samples = [Sample::default(); 401];
+    let evals = search::sample_grid(&from, n, &mut samples);
+    check_list(head, &from, n, &samples, book, m, evals, tally);
+    check_components(&from, n, &samples, book, m, tally);
 }

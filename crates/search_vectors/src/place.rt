@@ -1,19 +1,19 @@
 // What added one pair, within its row of samples: the refinement of a crossing, or a dip.
-ghost use Rattle.std.specs.Prelude.{◌+◌, ◌<◌, ◌≤◌, length};
+ghost use Rattle.std.specs.Prelude.{◌+◌, ◌<◌, ◌≤◌, ◌^◌};
 
 use crate::record;
 use float::is_finite;
 use search_edge::edge::Gap;
 use search_error::Branch;
-use search_pairs::SearchCounts;
+use search_pairs::{PairList, Row};
 use search_refine::Point;
 
 // A crossing between the samples l and l + 1.
-fn crossing(branch: &Branch, row: &[Point], l: usize, book: &[u8; 1830400], j: usize) -> bool
-    requires { (j < 17600) × (l + 1 < length row.now) }
+fn crossing(branch: &Branch, row: Row, l: usize, book: &[u8; 1830400], j: usize) -> bool
+    requires { (j < 17600) × (l + 1 < 2 ^ 64) }
 {
-    let a = row[l];
-    let b = row[l + 1];
+    let a = row.at(l);
+    let b = row.at(l + 1);
     let root = search_refine::refine::refine_bracket(branch, a, b);
     let is_q1 = record::gives(book, j, record::Q1, root.x);
     let is_whole = record::word(book, j, record::PART) == 0;
@@ -33,33 +33,27 @@ fn is_part(book: &[u8; 1830400], j: usize, pairs: usize, q0: f64, q1: f64) -> bo
 }
 
 // A dip between the samples a and b.
-fn dip(branch: &Branch, row: &[Point], a: usize, b: usize, book: &[u8; 1830400], j: usize) -> bool
-    requires { (j < 17600) × (a < b) × (b < length row.now) }
+fn dip(branch: &Branch, row: Row, a: usize, b: usize, book: &[u8; 1830400], j: usize) -> bool
+    requires { j < 17600 }
 {
-    let mut qs = [0.0; 2];
-    let mut cs = [0u8; 2];
-    let none = SearchCounts { pairs: 0, evals: 0 };
-    let f = search_dip::dip::minimise_dip(branch, row[a], row[b], &mut qs, &mut cs, none);
-    is_part(book, j, f.pairs, qs[0], qs[1])
+    let mut list: PairList<2> = PairList::new();
+    search_dip::dip::minimise_dip(branch, row.at(a), row.at(b), &mut list);
+    is_part(book, j, list.pairs, list.angles[0], list.angles[1])
 }
 
 // Whether no run of finite samples goes on at l, in a row of m samples.
-fn ends(row: &[Point], m: usize, l: usize) -> bool
-    requires { m ≤ length row.now }
-{
-    l >= m || !is_finite(row[l].y)
+fn ends(row: Row, m: usize, l: usize) -> bool {
+    l >= m || !is_finite(row.at(l).y)
 }
 
 // Whether none came before l.
-fn begins(row: &[Point], l: usize) -> bool
-    requires { l ≤ length row.now }
-{
-    l == 0 || !is_finite(row[l - 1].y)
+fn begins(row: Row, l: usize) -> bool {
+    l == 0 || !is_finite(row.at(l - 1).y)
 }
 
 // Whether the place that pair j has in a row of m samples gives that pair.
-fn in_row(branch: &Branch, row: &[Point], m: usize, book: &[u8; 1830400], j: usize) -> bool
-    requires { (j < 17600) × (m ≤ 1000) × (m ≤ length row.now) }
+fn in_row(branch: &Branch, row: Row, m: usize, book: &[u8; 1830400], j: usize) -> bool
+    requires { (j < 17600) × (m ≤ 1000) }
 {
     let at = record::word(book, j, record::INDEX);
     if at >= m as u64 {
@@ -87,17 +81,11 @@ fn in_edge(branch: &Branch, inside: Point, outside: f64, book: &[u8; 1830400], j
     if inside.x < e.inside.x {
         row.reverse();
     }
-    in_row(branch, &row, row.len(), book, j)
+    in_row(branch, Row::Edge(row.as_slice()), row.len(), book, j)
 }
 
 // Pair j is from the grid's samples of the branch's component, or from an edge between two of them.
-pub(crate) fn right(
-    branch: &Branch,
-    n: usize,
-    row: &[Point; 401],
-    book: &[u8; 1830400],
-    j: usize,
-) -> bool
+pub(crate) fn right(branch: &Branch, n: usize, row: Row, book: &[u8; 1830400], j: usize) -> bool
     requires { (n ≤ 400) × (j < 17600) }
 {
     let at = record::word(book, j, record::ROW);
@@ -107,8 +95,8 @@ pub(crate) fn right(
     if at > n as u64 {
         return false;
     }
-    let p = row[at as usize - 1];
-    let q = row[at as usize];
+    let p = row.at(at as usize - 1);
+    let q = row.at(at as usize);
     match (is_finite(p.y), is_finite(q.y)) {
         (true, false) => in_edge(branch, p, q.x, book, j),
         (false, true) => in_edge(branch, q, p.x, book, j),

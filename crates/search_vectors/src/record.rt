@@ -100,15 +100,11 @@ pub(crate) fn gives(book: &[u8; 1830400], j: usize, w: usize, x: f64) -> bool
     cases::gives(book, 13 * j + w, x)
 }
 
-fn wide(byte: u8) -> u64 {
-    byte as u64
-}
-
 // Whether pair j is (q1, i).
 pub(crate) fn is_pair(book: &[u8; 1830400], j: usize, q1: f64, i: u8) -> bool
     requires { j < 17600 }
 {
-    let is_i = word(book, j, COMPONENT) == wide(i);
+    let is_i = word(book, j, COMPONENT) == u64::from(i);
     is_i && gives(book, j, Q1, q1)
 }
 
@@ -116,5 +112,5 @@ pub(crate) fn is_pair(book: &[u8; 1830400], j: usize, q1: f64, i: u8) -> bool
 pub(crate) fn is_flag(book: &[u8; 1830400], j: usize, flag: u8) -> bool
     requires { j < 17600 }
 {
-    word(book, j, FLAG) == wide(flag)
+    word(book, j, FLAG) == u64::from(flag)
 }

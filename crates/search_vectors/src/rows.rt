@@ -2,22 +2,22 @@
 // grid's, and then each edge's. Which of them added a pair is noted beside it.
 ghost use Rattle.std.specs.Prelude.{◌<◌, ◌≤◌};
 
-use search::SearchCounts;
+use search::PairList;
 use search_error::Branch;
-use search_refine::Point;
+use search_pairs::Row;
 
 const ROOM: usize = 17600;
 
 const EVALS: u64 = 2000000;
 
 // A list that is too long is a wrong one: it begins anew, and its number is wrong in the end.
-fn within(f: SearchCounts) -> SearchCounts
-    ensures { (result.pairs ≤ 17600) × (result.evals ≤ 2000000) }
+fn within(list: &mut PairList<17600>)
+    ensures { (list.new.pairs ≤ 17600) × (list.new.evals ≤ 2000000) }
 {
-    if f.pairs > ROOM || f.evals > EVALS {
-        return SearchCounts { pairs: 0, evals: 0 };
+    if list.pairs > ROOM || list.evals > EVALS {
+        list.pairs = 0;
+        list.evals = 0;
     }
-    f
 }
 
 fn set_row(rows: &mut [u64; 17600], j: usize, row: u64) {
@@ -33,55 +33,36 @@ fn mark(rows: &mut [u64; 17600], from: usize, to: usize, row: u64) {
     }
 }
 
-fn grid(
-    branch: &Branch,
-    n: usize,
-    row: &[Point; 401],
-    qs: &mut [f64; 17600],
-    cs: &mut [u8; 17600],
-    rows: &mut [u64; 17600],
-    f: SearchCounts,
-) -> SearchCounts
+fn grid(branch: &Branch, n: usize, row: Row, list: &mut PairList<17600>, rows: &mut [u64; 17600])
     requires { n ≤ 400 }
 {
-    let g = within(f);
-    let h = search::scan_runs(branch, row, n, qs, cs, g);
-    mark(rows, g.pairs, h.pairs, 0);
-    h
+    within(list);
+    let from = list.pairs;
+    search::scan_runs(branch, row, n, list);
+    mark(rows, from, list.pairs, 0);
 }
 
-fn edge(
-    branch: &Branch,
-    k: usize,
-    row: &[Point; 401],
-    qs: &mut [f64; 17600],
-    cs: &mut [u8; 17600],
-    rows: &mut [u64; 17600],
-    f: SearchCounts,
-) -> SearchCounts
+fn edge(branch: &Branch, k: usize, row: Row, list: &mut PairList<17600>, rows: &mut [u64; 17600])
     requires { k < 400 }
 {
-    let g = within(f);
-    let h = search_edge::edge::edge_at(branch, row, k, qs, cs, g);
-    mark(rows, g.pairs, h.pairs, k as u64 + 1);
-    h
+    within(list);
+    let from = list.pairs;
+    search_edge::edge::edge_at(branch, row, k, list);
+    mark(rows, from, list.pairs, k as u64 + 1);
 }
 
 // All rows of one component.
 pub(crate) fn component(
     branch: &Branch,
     n: usize,
-    row: &[Point; 401],
-    qs: &mut [f64; 17600],
-    cs: &mut [u8; 17600],
+    row: Row,
+    list: &mut PairList<17600>,
     rows: &mut [u64; 17600],
-    f: SearchCounts,
-) -> SearchCounts
+)
     requires { n ≤ 400 }
 {
-    let mut g = grid(branch, n, row, qs, cs, rows, f);
+    grid(branch, n, row, list, rows);
     for k in 0..n {
-        g = edge(branch, k, row, qs, cs, rows, g);
+        edge(branch, k, row, list, rows);
     }
-    g
 }
