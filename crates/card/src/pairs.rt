@@ -6,8 +6,9 @@ ghost use Rattle.refusals.specs.Judge.{refusal_9};
 ghost use Rattle.solve.specs.InNumbers.{in_numbers};
 ghost use Rattle.card.specs.Usable.{answered, usable, pair_answers};
 
-use full_list::{Pairs, Task};
+use full_list::{FullList, Pairs, Task};
 use kinematics::Kinematics;
+use limits::Limits;
 use linear::{Matrix3, Vector3};
 use refusals::Family;
 use search_error::Fixed;
@@ -65,6 +66,6 @@ pub fn finish(
         components: &cs[..pairs],
         evals,
     };
-    let count = list.write_allowed(&[], angles, flags);
+    let count = FullList::Searched(list).write_allowed(Limits::none(), angles, flags);
     solve::given(count, evals, sixes, bytes)
 }

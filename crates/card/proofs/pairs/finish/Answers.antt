@@ -38,9 +38,12 @@ module _ (arm pose qs : List Float) (cs : List ℕ) (pairs : ℕ) {task : Task} 
   unfolding pair_answers
   all = rw e refl
 
-  module _ (angles : List Float) (flags : List ℕ) {a : List Float} {b : List ℕ} {count : ℕ} (w : Wrote (allowed [] of) angles flags a b count) where
+  module _ (angles : List Float) (flags : List ℕ) {stops a : List Float} {b : List ℕ} {count : ℕ} (none : stops ≡ []) (w : Wrote (allowed stops of) angles flags a b count) where
+    free : Wrote (allowed [] of) angles flags a b count
+    free = rw none at w
+
     wrote : Wrote (pair_answers arm pose qs cs pairs) angles flags a b count
-    wrote = by_name (unlimited of ∙ all) w
+    wrote = by_name (unlimited of ∙ all) free
 
     angles-written : a ≡ written (pair_answers arm pose qs cs pairs) angles flags
     angles-written = wrote.all_angles
@@ -49,7 +52,7 @@ module _ (arm pose qs : List Float) (cs : List ℕ) (pairs : ℕ) {task : Task} 
     flags-written = wrote.all_flags
 
     so_many : count ≡ pairs
-    so_many = w.all_counted ∙ ap length (unlimited of) ∙ sym (pairs_long (take pairs qs) (take pairs cs) same (answer_of task.r_06 task.p_0t task.kin tolerance)) ∙ length-take-le pairs qs in-qs
+    so_many = free.all_counted ∙ ap length (unlimited of) ∙ sym (pairs_long (take pairs qs) (take pairs cs) same (answer_of task.r_06 task.p_0t task.kin tolerance)) ∙ length-take-le pairs qs in-qs
 
     result : (evals : ℕ) {s : Solved} → s ≡ gives count evals (min (length angles / 6) (length flags)) → s ≡ record { refusal = refusal_9 pairs (room angles flags); answers = pairs; evals = evals }
     unfolding room_of
