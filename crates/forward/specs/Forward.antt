@@ -1,17 +1,7 @@
 -- Forward kinematics over plain numbers.
-use Rattle.std.specs.Prelude.{ℕ, cond, List, [], ◌∷◌, eqb, Float, length}
-use Rattle.linear.specs.Matrix.{row, part}
+use Rattle.std.specs.Prelude.{ℕ, cond, List, eqb, Float, length}
 use Rattle.kinematics.specs.Kinematics.{from_numbers}
-use Rattle.kinematics.specs.Pose.{forward_kinematics}
-use Rattle.kinematics.specs.declared.Pose.{Pose}
-
--- "A pose is the rotation by rows, then the place"
-abbrev pub pose_numbers : Pose → List Float
-pose_numbers s =
-    part (row s.rotation 0) 0 ∷ part (row s.rotation 0) 1 ∷ part (row s.rotation 0) 2
-    ∷ part (row s.rotation 1) 0 ∷ part (row s.rotation 1) 1 ∷ part (row s.rotation 1) 2
-    ∷ part (row s.rotation 2) 0 ∷ part (row s.rotation 2) 1 ∷ part (row s.rotation 2) 2
-    ∷ s.place.x ∷ s.place.y ∷ s.place.z ∷ []
+use Rattle.kinematics.specs.Pose.{pose_numbers, forward_kinematics}
 
 -- Document 01's "5. The arm is not 39 numbers. 6. The pose is not 12 numbers", here of the list that the pose goes to, and a number of this call's own: 18, the
 -- angles are not 6 numbers. The first that applies, or 0.

@@ -1,13 +1,10 @@
 // Forward kinematics over plain numbers, for the library: it judges the lengths of its lists.
 #![tactic(auto)]
 
-mod pose;
-
 ghost use Rattle.std.specs.Prelude.{◌≡◌};
 ghost use Rattle.refusals.specs.Refusal.{number_of};
 ghost use Rattle.forward.specs.Forward.{forward_refusal, forward_pose};
 
-use pose::{put_pose, six};
 use refusals::Refusal;
 
 // The pose of six angles. A list of another length than 39, 6 or 12 is refused, and the pose's list
@@ -16,16 +13,10 @@ pub fn forward(arm: &[f64], angles: &[f64], pose: &mut [f64]) -> Result<(), Refu
     ensures result { number_of result ≡ forward_refusal arm.now angles.now pose.old }
     ensures pose { pose.new ≡ forward_pose arm.now angles.now pose.old }
 {
-    if arm.len() != 39 {
-        return Err(Refusal::ArmLength);
-    }
-    if pose.len() != 12 {
-        return Err(Refusal::PoseLength);
-    }
-    if angles.len() != 6 {
-        return Err(Refusal::AnglesLength);
-    }
+    let arm = arm.as_array::<39>().ok_or(Refusal::ArmLength)?;
+    let pose = pose.as_mut_array::<12>().ok_or(Refusal::PoseLength)?;
+    let angles = angles.as_array::<6>().ok_or(Refusal::AnglesLength)?;
     let kin = kinematics::from_numbers(arm);
-    put_pose(pose, kinematics::forward_kinematics(kin, six(angles)));
+    *pose = kinematics::forward_kinematics(kin, *angles).numbers();
     Ok(())
 }

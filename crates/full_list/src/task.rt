@@ -1,5 +1,5 @@
 // What there is to solve once nothing is refused.
-ghost use Rattle.std.specs.Prelude.{◌≡◌, length};
+ghost use Rattle.std.specs.Prelude.{◌≡◌};
 ghost use Rattle.full_list.specs.Task.{task_of};
 
 use kinematics::{Kinematics, from_numbers, pose_place, pose_rotation};
@@ -20,9 +20,7 @@ pub struct Task {
 }
 
 impl Task {
-    pub fn new(family: Family, n: u64, arm: &[f64], pose: &[f64]) -> Task
-        requires arm { length arm.now ≡ 39 }
-        requires pose { length pose.now ≡ 12 }
+    pub fn new(family: Family, n: u64, arm: &[f64; 39], pose: &[f64; 12]) -> Task
         ensures { result ≡ task_of family n arm.now pose.now }
     {
         Task {

@@ -1,7 +1,7 @@
 -- The pose, and forward_kinematics of inverse_kinematics/auxiliary.rs.
-use Rattle.std.specs.Prelude.{ℕ, ◌+◌, List, Float, get_or}
+use Rattle.std.specs.Prelude.{ℕ, ◌+◌, List, Float, [], ◌∷◌, get_or}
 use Rattle.std.specs.Float.{nan}
-use Rattle.linear.specs.Matrix.{Matrix, part, array3, product, apply, identity, rot}
+use Rattle.linear.specs.Matrix.{Matrix, row, part, array3, product, apply, identity, rot}
 use Rattle.linear.specs.Vector.{◌+ᵛ◌}
 use Rattle.linear.specs.declared.vector.Vector3.{Vector3}
 use Rattle.kinematics.specs.Kinematics.{vector_at}
@@ -25,6 +25,14 @@ pose r p = record { rotation = r; place = p }
 
 abbrev pub rotation : Pose → Matrix
 rotation s = s.rotation
+
+-- the 12 numbers of a pose: "A pose is the rotation by rows, then the place"
+abbrev pub pose_numbers : Pose → List Float
+pose_numbers s =
+    part (row s.rotation 0) 0 ∷ part (row s.rotation 0) 1 ∷ part (row s.rotation 0) 2
+    ∷ part (row s.rotation 1) 0 ∷ part (row s.rotation 1) 1 ∷ part (row s.rotation 1) 2
+    ∷ part (row s.rotation 2) 0 ∷ part (row s.rotation 2) 1 ∷ part (row s.rotation 2) 2
+    ∷ s.place.x ∷ s.place.y ∷ s.place.z ∷ []
 
 -- one turn of the loop: "r *= rot(&self.h.column(i).into(), t); p += r * self.p.column(i + 1);"
 unfoldable pub joint : Pose → Vector3 → Float → Vector3 → Pose

@@ -1,10 +1,11 @@
 // The arm as a value, the pose, and forward kinematics: each function equals its definition in
-// specs/. Those that read a list ask for its length; `forward_kinematics` asks nothing.
+// specs/. An arm and a pose as numbers have their length in their type; `vector_at` asks that the list is
+// long enough.
 #![tactic(auto)]
 
 ghost use Rattle.std.specs.Prelude.{◌≡◌, ◌+◌, ◌≤◌, length};
 ghost use Rattle.kinematics.specs.Kinematics.{vector_at, from_numbers};
-ghost use Rattle.kinematics.specs.Pose.{row_at, pose_rotation, pose_place, joint, forward_kinematics};
+ghost use Rattle.kinematics.specs.Pose.{row_at, pose_rotation, pose_place, pose_numbers, joint, forward_kinematics};
 
 use linear::{Matrix3, Vector3};
 
@@ -47,8 +48,7 @@ pub fn vector_at(numbers: &[f64], i: usize) -> Vector3
 
 // The arm of 39 numbers: the axes, then the offsets.
 #[tactic(auto, unfolding(crate::specs::Kinematics::from_numbers))]
-pub fn from_numbers(arm: &[f64]) -> Kinematics
-    requires { length arm.now ≡ 39 }
+pub fn from_numbers(arm: &[f64; 39]) -> Kinematics
     ensures { result ≡ from_numbers arm.now }
 {
     Kinematics {
@@ -77,22 +77,31 @@ fn row_at(numbers: &[f64], i: usize) -> [f64; 3]
 }
 
 // The rotation of a pose of 12 numbers: by rows, before the place.
-pub fn pose_rotation(numbers: &[f64]) -> Matrix3
-    requires { length numbers.now ≡ 12 }
+pub fn pose_rotation(numbers: &[f64; 12]) -> Matrix3
     ensures { result ≡ pose_rotation numbers.now }
 {
     [row_at(numbers, 0), row_at(numbers, 3), row_at(numbers, 6)]
 }
 
 // Its place.
-pub fn pose_place(numbers: &[f64]) -> Vector3
-    requires { length numbers.now ≡ 12 }
+pub fn pose_place(numbers: &[f64; 12]) -> Vector3
     ensures { result ≡ pose_place numbers.now }
 {
     vector_at(numbers, 9)
 }
 
 impl Pose {
+    // The pose as 12 numbers: the rotation by rows, then the place.
+    pub fn numbers(self) -> [f64; 12]
+        ensures { result ≡ pose_numbers self }
+    {
+        let [a, b, c] = self.rotation;
+        let p = self.place;
+        [
+            a[0], a[1], a[2], b[0], b[1], b[2], c[0], c[1], c[2], p.x, p.y, p.z,
+        ]
+    }
+
     // The pose after one joint more: its axis, its angle, and the offset to the next.
     #[tactic(auto, unfolding(crate::specs::Pose::joint))]
     fn joint(self, h: Vector3, t: f64, offset: Vector3) -> Pose

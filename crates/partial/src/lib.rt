@@ -2,7 +2,7 @@
 // locked is an arm of six.
 #![tactic(auto)]
 
-ghost use Rattle.std.specs.Prelude.{◌≡◌, ◌≤◌, length};
+ghost use Rattle.std.specs.Prelude.{◌≡◌, ◌≤◌};
 ghost use Rattle.partial.specs.Partial.{kin_new, locked_rotation, forward_kinematics_partial};
 ghost use Rattle.partial.specs.Columns.{axis, offset};
 
@@ -18,8 +18,8 @@ pub struct Partial {
 
 // Axis i of the arm that is left.
 #[tactic(auto, unfolding(crate::specs::Columns::axis))]
-fn axis(arm: &[f64], n: usize, r_n: Matrix3, i: usize) -> Vector3
-    requires { (length arm.now ≡ 45) × (i ≤ 5) }
+fn axis(arm: &[f64; 45], n: usize, r_n: Matrix3, i: usize) -> Vector3
+    requires { i ≤ 5 }
     ensures { result ≡ axis arm.now n r_n i }
 {
     if i < n {
@@ -30,8 +30,8 @@ fn axis(arm: &[f64], n: usize, r_n: Matrix3, i: usize) -> Vector3
 
 // Offset i of the arm that is left.
 #[tactic(auto, unfolding(crate::specs::Columns::offset))]
-fn offset(arm: &[f64], n: usize, r_n: Matrix3, i: usize) -> Vector3
-    requires { (length arm.now ≡ 45) × (i ≤ 6) }
+fn offset(arm: &[f64; 45], n: usize, r_n: Matrix3, i: usize) -> Vector3
+    requires { i ≤ 6 }
     ensures { result ≡ offset arm.now n r_n i }
 {
     let here = vector_at(arm, 21 + 3 * i);
@@ -47,8 +47,8 @@ fn offset(arm: &[f64], n: usize, r_n: Matrix3, i: usize) -> Vector3
 
 // The arm that is left where joint n has the rotation r_n.
 #[tactic(auto, using(crate::proofs::Closed::columns))]
-fn kin_new(arm: &[f64], n: usize, r_n: Matrix3) -> Kinematics
-    requires { (length arm.now ≡ 45) × (n ≤ 6) }
+fn kin_new(arm: &[f64; 45], n: usize, r_n: Matrix3) -> Kinematics
+    requires { n ≤ 6 }
     ensures { result ≡ kin_new arm.now n r_n }
 {
     Kinematics {
@@ -70,16 +70,16 @@ fn kin_new(arm: &[f64], n: usize, r_n: Matrix3) -> Kinematics
 
 // The rotation of joint n at the angle q_n.
 #[tactic(auto, unfolding(crate::specs::Partial::locked_rotation))]
-pub fn locked_rotation(arm: &[f64], q_n: f64, n: usize) -> Matrix3
-    requires { (length arm.now ≡ 45) × (n ≤ 6) }
+pub fn locked_rotation(arm: &[f64; 45], q_n: f64, n: usize) -> Matrix3
+    requires { n ≤ 6 }
     ensures { result ≡ locked_rotation arm.now q_n n }
 {
     linear::rot(vector_at(arm, 3 * n), q_n)
 }
 
 #[tactic(auto, unfolding(crate::specs::Partial::forward_kinematics_partial))]
-pub fn forward_kinematics_partial(arm: &[f64], q_n: f64, n: usize, r_6t: Matrix3) -> Partial
-    requires { (length arm.now ≡ 45) × (n ≤ 6) }
+pub fn forward_kinematics_partial(arm: &[f64; 45], q_n: f64, n: usize, r_6t: Matrix3) -> Partial
+    requires { n ≤ 6 }
     ensures { result ≡ forward_kinematics_partial arm.now q_n n r_6t }
 {
     let r_n = locked_rotation(arm, q_n, n);

@@ -4,7 +4,7 @@
 mod family;
 mod refusal;
 
-ghost use Rattle.std.specs.Prelude.{◌≡◌, min};
+ghost use Rattle.std.specs.Prelude.{◌≡◌, min, IfOk};
 ghost use Rattle.refusals.specs.Refusal.{number_of};
 ghost use Rattle.refusals.specs.Judge.{within, samples_fit, first_not_finite, all_finite, judge_shape, judge_numbers, judge, refusal_9};
 
@@ -45,25 +45,23 @@ pub fn all_finite(numbers: &[f64]) -> bool
     first_not_finite(numbers) >= numbers.len()
 }
 
-// Refusals 4 to 6, the first that applies, where an arm has so many numbers.
-pub fn judge_shape(
+// Refusals 4 to 6, the first that applies, where an arm has N numbers; else the arm and the pose, with
+// their lengths in their types.
+pub fn judge_shape<'a, 'b, const N: usize>(
     family: u64,
-    arm: &[f64],
-    arm_numbers: usize,
-    pose: &[f64],
-) -> Result<(), Refusal>
-    ensures { number_of result ≡ judge_shape family arm.now arm_numbers pose.now }
+    arm: &'a [f64],
+    pose: &'b [f64],
+) -> Result<(&'a [f64; N], &'b [f64; 12]), Refusal>
+    ensures refused { number_of result ≡ judge_shape family arm.now N pose.now }
+    ensures arm { IfOk result (λ shaped. shaped.0.now ≡ arm.now) }
+    ensures pose { IfOk result (λ shaped. shaped.1.now ≡ pose.now) }
 {
     if !within(1, family, 6) {
         return Err(Refusal::Family);
     }
-    if arm.len() != arm_numbers {
-        return Err(Refusal::ArmLength);
-    }
-    if pose.len() != 12 {
-        return Err(Refusal::PoseLength);
-    }
-    Ok(())
+    let arm = arm.as_array::<N>().ok_or(Refusal::ArmLength)?;
+    let pose = pose.as_array::<12>().ok_or(Refusal::PoseLength)?;
+    Ok((arm, pose))
 }
 
 // Refusals 7 and 8, the first that applies.
@@ -84,7 +82,7 @@ pub fn judge_numbers(family: u64, n: u64, arm: &[f64], pose: &[f64]) -> Result<(
 pub fn judge(family: u64, n: u64, arm: &[f64], pose: &[f64]) -> Result<(), Refusal>
     ensures { number_of result ≡ judge family n arm.now pose.now }
 {
-    judge_shape(family, arm, 39, pose)?;
+    judge_shape::<39>(family, arm, pose)?;
     judge_numbers(family, n, arm, pose)
 }
 

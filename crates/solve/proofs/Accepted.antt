@@ -1,6 +1,6 @@
 -- What holds of the input where none of refusals 4 to 8 applies.
 use Prim.Native.Nat.{ℕ, ◌≤◌}
-use mathlib.Core.Path.{◌≡◌, refl, sym}
+use mathlib.Core.Path.{◌≡◌, refl, sym, ◌∙◌}
 use mathlib.Core.Bool.{Bool, true, false, cond, ◌&&◌}
 use mathlib.Core.List.{List}
 use native.Mathlib.Omega.{arith}
@@ -12,7 +12,8 @@ use Rattle.std.proofs.Common.{Ok, Err}
 use Rattle.std.proofs.lemmas.Grind.{common_steps}
 use Rattle.refusals.specs.Family.{family_number, family_of}
 use Rattle.refusals.specs.declared.family.Family.{Family}
-use Rattle.refusals.specs.Judge.{known, samples_fit, all_finite, judge}
+use Rattle.refusals.specs.Judge.{known, samples_fit, all_finite, judge_shape, judge_numbers, judge}
+use Rattle.refusals.proofs.Judged.{judge_refused, judge_accepted}
 use Rattle.limits.specs.Limits.{refusal_10}
 use Rattle.full_list.specs.Full.{of_numbers}
 use Rattle.full_list.specs.Task.{task_of, of_task}
@@ -81,6 +82,10 @@ named number family e = grind (arith, common_steps)
 pub unnamed : (number : ℕ) (e : Refusal) → Err e ≡ family_of number → 1 ≤ number → number ≤ 6 → ⊥
 unnamed number e h low high = grind (arith, common_steps)
 
+-- 4 to 8 where none of 4 to 6 applies
+pub judged_numbers : (family n : ℕ) (arm pose : List Float) {r : ℕ} → 0 ≡ judge_shape family arm 39 pose → r ≡ judge_numbers family n arm pose → r ≡ judge family n arm pose
+judged_numbers family n arm pose e h = h ∙ judge_accepted family n arm pose (sym e)
+
 -- 10 first, then 4 to 8
 module _ (family n : ℕ) (arm pose limits : List Float) where
   pub by_limits : {ten : ℕ} → ten ≡ refusal_10 limits → (ten ≡ 0 → ⊥) → ten ≡ refused family n arm pose limits
@@ -91,10 +96,17 @@ module _ (family n : ℕ) (arm pose limits : List Float) where
   unfolding refused
   by_judge z e = let t = eq-eqb (refusal_10 limits) 0 (sym z) in cc
 
+  pub by_shape : {r : ℕ} → ◌≡◌ {A = ℕ} 0 (refusal_10 limits) → r ≡ judge_shape family arm 39 pose → (r ≡ 0 → ⊥) → r ≡ refused family n arm pose limits
+  by_shape z e h = by_judge z (e ∙ judge_refused family n arm pose (λ y. h (e ∙ y)))
+
   -- what a call solves that is not refused
   pub solves : 0 ≡ refused family n arm pose limits → full family n arm pose limits ≡ of_numbers family n arm pose
   unfolding full
   solves z = let t = eq-eqb (refused family n arm pose limits) 0 (sym z) in cc
 
-  pub task_is : {t : Task} {known : Family} → 0 ≡ refused family n arm pose limits → Ok known ≡ family_of family → t ≡ task_of known n arm pose → of_task t ≡ full family n arm pose limits
-  task_is {known = known} z h e = rw (e, named family known (sym h)) (sym (solves z))
+  pub task_is : {t : Task} {known : Family} {a p : List Float} → 0 ≡ refused family n arm pose limits → Ok known ≡ family_of family → a ≡ arm → p ≡ pose → t ≡ task_of known n a p → of_task t ≡ full family n arm pose limits
+  task_is {known = known} z h e-a e-p e = rw (e, e-a, e-p, named family known (sym h)) (sym (solves z))
+
+  -- the number of a family that is judged has one
+  pub no_unnamed : {r : ℕ} {e : Refusal} → 0 ≡ judge_shape family arm 39 pose → 0 ≡ judge_numbers family n arm pose → Err e ≡ family_of family → r ≡ refused family n arm pose limits
+  no_unnamed {e = e} s m h = let fit = accepted family n arm pose (judged_numbers family n arm pose s m) in absurd (unnamed family e h fit.family_low fit.family_high)

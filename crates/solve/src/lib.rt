@@ -14,7 +14,7 @@ ghost use Rattle.solve.specs.InNumbers.{in_numbers, refuses, gives};
 
 use full_list::{FullList, Task};
 use limits::Limits;
-use refusals::{Family, Refusal, judge, refusal_9};
+use refusals::{Family, Refusal, judge_numbers, judge_shape, refusal_9};
 
 // What a call gives: whether it is refused, the number of answers inside the limits, and the number of
 // evaluations of the search error. Where there is no room for the answers, it is refused with its counts.
@@ -38,9 +38,10 @@ pub fn judged<'a>(
     ensures limits { IfOk result (λ given. given.1.stops.now ≡ limits.now) }
 {
     let limits = Limits::new(limits)?;
-    judge(family, n, arm, pose)?;
+    let shaped = judge_shape::<39>(family, arm, pose)?;
+    judge_numbers(family, n, arm, pose)?;
     let known = Family::new(family)?;
-    let task = Task::new(known, n, arm, pose);
+    let task = Task::new(known, n, shaped.0, shaped.1);
     Ok((task, limits))
 }
 

@@ -10,6 +10,7 @@ use lib.Ieee.{Float}
 use lib.ListN.{length}
 use Rattle.float.specs.Number.{is_finite}
 use Rattle.refusals.specs.Judge.{known, samples_fit, all_finite, judge_shape, judge_numbers}
+use Rattle.track.specs.Reduced.{reduced_arm, handed_on}
 use Rattle.track.specs.Track.{lockable, reduced_finite, track_judge, track_refused}
 
 pub record TrackAccepted (family n : ℕ) (arm : List Float) (joint : ℕ) (pose : List Float) : Type 0 where
@@ -49,6 +50,13 @@ track_accepted family n arm joint angle pose e =
       joint_high = leb-true joint 6 l.0;
       samples = t.4;
     }
+
+-- the arm that is left and the pose handed on, of the numbers that the judging gives
+pub left-of : (arm : List Float) (joint : ℕ) (angle : Float) {a l : List Float} → a ≡ arm → l ≡ reduced_arm a joint angle → l ≡ reduced_arm arm joint angle
+left-of arm joint angle e h = rw (← e) h
+
+pub to-of : (arm : List Float) (joint : ℕ) (angle : Float) (pose : List Float) {a p l : List Float} → a ≡ arm → p ≡ pose → l ≡ handed_on a joint angle p → l ≡ handed_on arm joint angle pose
+to-of arm joint angle pose e e-p h = rw (← e, ← e-p) h
 
 -- where nothing is refused, the numbers are accepted and those of the arm that is left are finite
 both_zero : (x : ℕ) (b t : Bool) → eqb x 0 ≡ t → ◌≡◌ {A = ℕ} 0 (cond t (cond b 0 8) x) → (0 ≡ x) × (b ≡ true)

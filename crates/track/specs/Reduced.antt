@@ -1,8 +1,8 @@
 -- The arm of six axes that is left where a joint is locked, as numbers, and the pose that it is to make.
 use Rattle.std.specs.Prelude.{ℕ, List, [], ◌∷◌, ◌++◌, Float}
-use Rattle.linear.specs.Matrix.{Matrix, row, part, product, transpose, identity}
+use Rattle.linear.specs.Matrix.{product, transpose, identity}
 use Rattle.linear.specs.declared.vector.Vector3.{Vector3}
-use Rattle.kinematics.specs.Pose.{pose_rotation, pose_place}
+use Rattle.kinematics.specs.Pose.{pose_rotation, pose_place, pose_numbers}
 use Rattle.kinematics.specs.declared.Kinematics.{Kinematics}
 use Rattle.partial.specs.Partial.{locked_rotation, forward_kinematics_partial}
 
@@ -18,13 +18,6 @@ to_numbers kin =
 unfoldable pub reduced_arm : List Float → ℕ → Float → List Float
 reduced_arm arm joint angle = to_numbers (forward_kinematics_partial arm angle joint identity).kin
 
--- a rotation by rows, then a place
-abbrev row_numbers : Matrix → ℕ → List Float
-row_numbers m i = part (row m i) 0 ∷ part (row m i) 1 ∷ part (row m i) 2 ∷ []
-
-unfoldable pub pose_numbers : Matrix → Vector3 → List Float
-pose_numbers m p = row_numbers m 0 ++ row_numbers m 1 ++ row_numbers m 2 ++ xyz p
-
 -- "The pose handed on is the wanted rotation times the transpose of the locked joint's own rotation."
 unfoldable pub handed_on : List Float → ℕ → Float → List Float → List Float
-handed_on arm joint angle pose = pose_numbers (product (pose_rotation pose) (transpose (locked_rotation arm angle joint))) (pose_place pose)
+handed_on arm joint angle pose = pose_numbers (record { rotation = product (pose_rotation pose) (transpose (locked_rotation arm angle joint)); place = pose_place pose })

@@ -34,22 +34,26 @@ fn lockable(joint: u64, angle: f64) -> bool
     joint <= 6 && float::is_finite(angle)
 }
 
-// Refusals 4, 5, 6, 11, 7 and 8 of the numbers that are lent, the first that applies.
-fn track_judge(
+// Refusals 4, 5, 6, 11, 7 and 8 of the numbers that are lent, the first that applies; else the arm and the
+// pose, with their lengths in their types.
+fn track_judge<'a, 'b>(
     family: u64,
     n: u64,
-    arm: &[f64],
+    arm: &'a [f64],
     joint: u64,
     angle: f64,
-    pose: &[f64],
-) -> Result<(), Refusal>
-    ensures { number_of result ≡ track_judge family n arm.now joint angle pose.now }
+    pose: &'b [f64],
+) -> Result<(&'a [f64; 45], &'b [f64; 12]), Refusal>
+    ensures refused { number_of result ≡ track_judge family n arm.now joint angle pose.now }
+    ensures arm { IfOk result (λ shaped. shaped.0.now ≡ arm.now) }
+    ensures pose { IfOk result (λ shaped. shaped.1.now ≡ pose.now) }
 {
-    judge_shape(family, arm, 45, pose)?;
+    let shaped = judge_shape::<45>(family, arm, pose)?;
     if !lockable(joint, angle) {
         return Err(Refusal::Lock);
     }
-    judge_numbers(family, n, arm, pose)
+    judge_numbers(family, n, arm, pose)?;
+    Ok(shaped)
 }
 
 // What there is to solve: the arm that is left, and the pose that it is to make. Numbers of theirs that
@@ -66,9 +70,9 @@ fn judged(
     ensures task { IfOk result (λ task. of_task task ≡ track_full family n arm.now joint angle pose.now) }
     ensures joint { OnOk result (joint ≤ 6) }
 {
-    track_judge(family, n, arm, joint, angle, pose)?;
-    let left = reduced_arm(arm, joint as usize, angle);
-    let to = handed_on(arm, joint as usize, angle, pose);
+    let shaped = track_judge(family, n, arm, joint, angle, pose)?;
+    let left = reduced_arm(shaped.0, joint as usize, angle);
+    let to = handed_on(shaped.0, joint as usize, angle, shaped.1);
     if !all_finite(&left) {
         return Err(Refusal::NotFinite);
     }

@@ -1,9 +1,8 @@
 // The arm that is left where a joint is locked, as numbers, and the pose that it is to make.
-ghost use Rattle.std.specs.Prelude.{◌≡◌, ◌≤◌, length};
-ghost use Rattle.track.specs.Reduced.{to_numbers, reduced_arm, pose_numbers, handed_on};
+ghost use Rattle.std.specs.Prelude.{◌≡◌, ◌≤◌};
+ghost use Rattle.track.specs.Reduced.{to_numbers, reduced_arm, handed_on};
 
-use kinematics::Kinematics;
-use linear::{Matrix3, Vector3};
+use kinematics::{Kinematics, Pose};
 
 fn to_numbers(kin: Kinematics) -> [f64; 39]
     ensures { result ≡ to_numbers kin }
@@ -28,32 +27,22 @@ fn to_numbers(kin: Kinematics) -> [f64; 39]
     ]
 }
 
-pub(crate) fn reduced_arm(arm: &[f64], joint: usize, angle: f64) -> [f64; 39]
-    requires { (length arm.now ≡ 45) × (joint ≤ 6) }
+pub(crate) fn reduced_arm(arm: &[f64; 45], joint: usize, angle: f64) -> [f64; 39]
+    requires { joint ≤ 6 }
     ensures { result ≡ reduced_arm arm.now joint angle }
 {
     let left = partial::forward_kinematics_partial(arm, angle, joint, linear::identity());
     to_numbers(left.kin)
 }
 
-fn pose_numbers(r: Matrix3, p: Vector3) -> [f64; 12]
-    ensures { result ≡ pose_numbers r p }
-{
-    let a = r[0];
-    let b = r[1];
-    let c = r[2];
-    [
-        a[0], a[1], a[2], b[0], b[1], b[2], c[0], c[1], c[2], p.x, p.y, p.z,
-    ]
-}
-
-pub(crate) fn handed_on(arm: &[f64], joint: usize, angle: f64, pose: &[f64]) -> [f64; 12]
-    requires { (length arm.now ≡ 45) × (joint ≤ 6) × (length pose.now ≡ 12) }
+pub(crate) fn handed_on(arm: &[f64; 45], joint: usize, angle: f64, pose: &[f64; 12]) -> [f64; 12]
+    requires { joint ≤ 6 }
     ensures { result ≡ handed_on arm.now joint angle pose.now }
 {
     let r_n = partial::locked_rotation(arm, angle, joint);
     let wanted = kinematics::pose_rotation(pose);
     let back = linear::transpose(r_n);
-    let r = linear::product(wanted, back);
-    pose_numbers(r, kinematics::pose_place(pose))
+    let rotation = linear::product(wanted, back);
+    let place = kinematics::pose_place(pose);
+    Pose { rotation, place }.numbers()
 }

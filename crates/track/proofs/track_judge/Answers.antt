@@ -5,13 +5,18 @@ use Rattle.refusals.proofs.Outcomes.{passed_on, number-positive}
 use Rattle.track.proofs.Accepted.{by_shape, by_lock, by_numbers}
 use Rattle.track.proofs.track_judge.Goals as goal
 
-pub returns-in_err-judge_shape : goal.returns-in_err-judge_shape
-returns-in_err-judge_shape c =
-    let e : number_of c.from_residual.result ≡ number c.in_err-judge_shape.field-0.0 = search (rules, passed_on) in
-    rw e (by_shape _ _ _ _ _ _ c.in_err-judge_shape.ensures (number-positive _))
+pub returns-in_err-shaped-clause-refused : goal.returns-in_err-shaped-clause-refused
+returns-in_err-shaped-clause-refused c =
+    let e : number_of c.from_residual.result ≡ number c.in_err-shaped.field-0.0 = search (rules, passed_on) in
+    rw e (by_shape _ _ _ _ _ _ c.in_err-shaped.ensures.refused (number-positive _))
 
-pub returns-then-not-lockable : goal.returns-then-not-lockable
-returns-then-not-lockable c = by_lock _ _ _ _ _ _ c.in_ok-judge_shape.ensures c.lockable.ensures c.if-not-lockable.true
+pub returns-then-not-lockable-clause-refused : goal.returns-then-not-lockable-clause-refused
+returns-then-not-lockable-clause-refused c = by_lock _ _ _ _ _ _ c.in_ok-shaped.ensures.refused c.lockable.ensures c.if-not-lockable.true
 
-pub returns : goal.returns
-returns c = by_numbers _ _ _ _ _ _ c.in_ok-judge_shape.ensures c.lockable.ensures c.if-not-lockable.false c.judge_numbers.ensures
+pub returns-in_err-judge_numbers-clause-refused : goal.returns-in_err-judge_numbers-clause-refused
+returns-in_err-judge_numbers-clause-refused c =
+    let e : number_of c.from_residual-in_err-judge_numbers.result ≡ number c.in_err-judge_numbers.field-0.0 = search (rules, passed_on) in
+    rw e (by_numbers _ _ _ _ _ _ c.in_ok-shaped.ensures.refused c.lockable.ensures c.if-not-lockable.false c.in_err-judge_numbers.ensures)
+
+pub returns-clause-refused : goal.returns-clause-refused
+returns-clause-refused c = by_numbers _ _ _ _ _ _ c.in_ok-shaped.ensures.refused c.lockable.ensures c.if-not-lockable.false c.in_ok-judge_numbers.ensures

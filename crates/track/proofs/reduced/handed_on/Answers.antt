@@ -5,9 +5,10 @@ use mathlib.Core.List.{List}
 use lib.Ieee.{Float}
 use Rattle.linear.specs.Matrix.{Matrix, product, transpose}
 use Rattle.linear.specs.declared.vector.Vector3.{Vector3}
-use Rattle.kinematics.specs.Pose.{pose_rotation, pose_place}
+use Rattle.kinematics.specs.Pose.{pose_rotation, pose_place, pose_numbers}
+use Rattle.kinematics.specs.declared.Pose.{Pose}
 use Rattle.partial.specs.Partial.{locked_rotation}
-use Rattle.track.specs.Reduced.{pose_numbers, handed_on}
+use Rattle.track.specs.Reduced.{handed_on}
 use Rattle.track.proofs.reduced.handed_on.Goals as goal
 
 met : (arm : List Float) (joint : ℕ) (angle : Float) (pose : List Float) {r-n w t r : Matrix} {p : Vector3} {l : List Float}
@@ -16,7 +17,7 @@ met : (arm : List Float) (joint : ℕ) (angle : Float) (pose : List Float) {r-n 
     → t ≡ transpose r-n
     → r ≡ product w t
     → p ≡ pose_place pose
-    → l ≡ pose_numbers r p
+    → l ≡ pose_numbers (record { rotation = r; place = p })
     → l ≡ handed_on arm joint angle pose
 unfolding handed_on
 met arm joint angle pose e-n e-w e-t e-r e-p e-l = rw (← e-n, ← e-t, ← e-w, ← e-r, ← e-p) e-l
