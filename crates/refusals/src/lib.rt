@@ -1,4 +1,6 @@
 // What the solve call refuses: 4 to 8 before it solves, 9 once the number of answers is known.
+// A family is a number in what judges: a caller in C hands one over, and whether it is a family is what
+// refusal 4 tells.
 #![tactic(auto)]
 
 mod family;
@@ -17,6 +19,7 @@ pub fn within(low: u64, x: u64, high: u64) -> bool
     low <= x && x <= high
 }
 
+// Whether n is one of the family's. A number that is no family is judged as well: refusal 4 told of it before.
 pub fn samples_fit(family: u64, n: u64) -> bool
     ensures { result ≡ samples_fit family n }
 {
@@ -46,7 +49,7 @@ pub fn all_finite(numbers: &[f64]) -> bool
 }
 
 // Refusals 4 to 6, the first that applies, where an arm has N numbers; else the arm and the pose, with
-// their lengths in their types.
+// their lengths in their types. `family` is the number that refusal 4 judges.
 pub fn judge_shape<'a, 'b, const N: usize>(
     family: u64,
     arm: &'a [f64],
@@ -64,7 +67,7 @@ pub fn judge_shape<'a, 'b, const N: usize>(
     Ok((arm, pose))
 }
 
-// Refusals 7 and 8, the first that applies.
+// Refusals 7 and 8, the first that applies. `family` is a number as in `judge`, of which this is the rest.
 pub fn judge_numbers(family: u64, n: u64, arm: &[f64], pose: &[f64]) -> Result<(), Refusal>
     ensures { number_of result ≡ judge_numbers family n arm.now pose.now }
 {
@@ -78,7 +81,7 @@ pub fn judge_numbers(family: u64, n: u64, arm: &[f64], pose: &[f64]) -> Result<(
     }
 }
 
-// Refusals 4 to 8, the first that applies.
+// Refusals 4 to 8, the first that applies, of the numbers that a caller lends.
 pub fn judge(family: u64, n: u64, arm: &[f64], pose: &[f64]) -> Result<(), Refusal>
     ensures { number_of result ≡ judge family n arm.now pose.now }
 {

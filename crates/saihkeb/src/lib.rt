@@ -2,7 +2,8 @@
 // limits block, the track call, the file of arms and forward kinematics for C and Rust
 // (include/saihkeb.h is its manual). No call asks anything of its numbers or of its lists' lengths:
 // each equals its definition on every input. A list is lent, so its pointer is never null; the
-// header's functions of the short names take a null pointer too.
+// header's functions of the short names take a null pointer too. A family is a number here: a caller in
+// C hands one over, and whether it is a family is what refusal 4 tells.
 #![tactic(auto)]
 
 ghost use Rattle.std.specs.Prelude.{◌≡◌, ◌∷◌, []};

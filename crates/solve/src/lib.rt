@@ -26,6 +26,7 @@ pub struct Solved {
 }
 
 // What there is to solve, and the limits, where none of refusals 10 and 4 to 8 applies; else the first.
+// `family` is a number: a caller in C hands it over, and whether it is a family is what refusal 4 tells.
 pub fn judged<'a>(
     family: u64,
     n: u64,

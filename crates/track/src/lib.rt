@@ -57,7 +57,8 @@ fn track_judge<'a, 'b>(
 }
 
 // What there is to solve: the arm that is left, and the pose that it is to make. Numbers of theirs that
-// overflow are refused as the numbers that are lent.
+// overflow are refused as the numbers that are lent. `family` is a number: a caller in C hands it over, and
+// whether it is a family is what refusal 4 tells.
 fn judged(
     family: u64,
     n: u64,

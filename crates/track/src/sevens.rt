@@ -7,7 +7,8 @@ ghost use Rattle.track.specs.Sevens.{seven, parts, sevens};
 
 use answers::Answer;
 
-// The seven angles of an answer.
+// The seven angles of an answer. Each row is written out: a loop over the joints would ask of each whether
+// it stands before the locked one, and its array would first hold numbers that are none of the answer's.
 fn seven(q: Answer, joint: usize, angle: f64) -> [f64; 7]
     requires { joint ≤ 6 }
     ensures { result ≡ seven joint angle q }
