@@ -2,16 +2,17 @@
 use Prim.Native.Nat.{ℕ, ◌*◌, ◌≤◌}
 use mathlib.Core.Path.{◌≡◌, refl}
 use mathlib.Core.List.{List, [], ◌++◌, map, flat_map}
+use native.Mathlib.Omega.{arith}
 use lib.Ieee.{Float}
 use lib.ListN.{length, drop}
 use Rattle.answers.specs.Answer.{six, byte}
 use Rattle.answers.specs.Written.{sixes, room, written, flagged, Wrote}
 use Rattle.answers.specs.declared.Answer.{Answer}
 use Rattle.answers.proofs.Rows as Rows
-use Rattle.answers.proofs.Rows.{Good, six_wide}
+use Rattle.answers.proofs.Rows.{Good}
 
 pub six_good : Good sixes
-six_good = record { width = six_wide; long = λ q. refl }
+six_good = record { width = omega arith; long = λ q. refl }
 
 pub length_six : (qs : List Answer) → length (flat_map six qs) ≡ 6 * length qs
 length_six = Rows.length_rows sixes six_good

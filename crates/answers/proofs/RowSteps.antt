@@ -1,4 +1,4 @@
--- A loop that writes the answers of each p of a list, one after the other: the rest of both lists is lent to the function that writes those of one. For rows of six and of seven.
+-- A loop that writes the answers of each p of a list, one after the other: the rest of both lists is lent to the function that writes those of one. For rows of any width.
 use Prim.Native.Nat.{ℕ, zero, suc, min, ◌+◌, ◌*◌, ◌-◌, ◌<◌, ◌≤◌}
 use mathlib.Core.Path.{◌≡◌, ◌∙◌, ap}
 use mathlib.Core.List.{List, [], ◌∷◌, ◌++◌, flat_map, append-nil}
@@ -33,13 +33,13 @@ take_min zero (x ∷ l) = rw zero-min
 take_min (suc n) (x ∷ l) = rw (suc-min-suc, take_min n l)
 
 -- as it is lent
-lent : {A : Type 0} (n : ℕ) (l : List A) {at : ℕ} → at ≡ min n (length l) → mid_of at (length l - at) l ≡ drop n l
+pub lent : {A : Type 0} (n : ℕ) (l : List A) {at : ℕ} → at ≡ min n (length l) → mid_of at (length l - at) l ≡ drop n l
 lent n l {at} e =
     let whole : length (drop at l) ≤ length l - at = rw length-drop (omega arith) in
     take_all (length l - at) (drop at l) whole ∙ rw e (drop_min n l)
 
 -- as it comes back
-back : {A : Type 0} (n : ℕ) (l l' : List A) {at : ℕ} → at ≡ min n (length l) → put_mid at (length l - at) l l' ≡ take n l ++ l'
+pub back : {A : Type 0} (n : ℕ) (l l' : List A) {at : ℕ} → at ≡ min n (length l) → put_mid at (length l - at) l l' ≡ take n l ++ l'
 back n l l' {at} e =
     let whole : length (drop at l) ≤ length l - at = rw length-drop (omega arith) in
     rw (drop_of_length-le (drop at l) whole, append-nil l', e) (ap (λ (t : List _). t ++ l') (take_min n l))

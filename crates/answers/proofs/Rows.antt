@@ -1,50 +1,66 @@
--- Answers written one after another: what a loop that lends on the rest of both lists leaves. One law for rows of six and of seven.
-use Prim.Native.Nat.{ℕ, min, suc, ◌+◌, ◌*◌, ◌-◌, ◌/◌, ◌<◌, ◌≤◌}
+-- Answers written one after another: what a loop that lends on the rest of both lists leaves. One law for rows of any width.
+use Prim.Native.Nat.{ℕ, min, suc, ◌+◌, ◌*◌, ◌-◌, ◌/◌, ◌%◌, ◌<◌, ◌≤◌}
 use mathlib.Core.Path.{◌≡◌, refl, sym}
 use mathlib.Core.Bool.{Bool, true, false}
 use mathlib.Core.List.{List, [], ◌∷◌, ◌++◌, map, flat_map, append_assoc}
+use native.Mathlib.Nat.{le_trans, mul-le-mul_left}
+use native.Mathlib.Numerals.{add-one}
 use native.Mathlib.Omega.{arith}
 use borrow.Author.Tests.{leb-true, leb-false}
 use lib.Dec.{leb}
 use lib.Ieee.{Float}
 use lib.ListN.{length, take, drop, length-map, length-append, length-take, length-drop, take-append-drop}
 use lib.Seq.{take-nil, take_all, take-append-le, take-append-add, take_at, drop_at, drop-drop}
+use Rattle.std.proofs.Math.Nat.{mul-zero, mul-one, mul-add, mul-sub, mul_comm, mul-div-le, div-add-mod, mod-lt, zero-div, lt-mul-div-succ}
+use Rattle.std.proofs.lemmas.Nat.{div-mul-add}
 use Rattle.answers.specs.Answer.{byte}
 use Rattle.answers.specs.Rows.{Form, room_of, fitting_of, written_of, flagged_of, WroteOf}
 use Rattle.answers.specs.declared.Answer.{Answer}
 
--- ---- widths
-pub data Width : ℕ → Type 0 where
-  six_wide : Width 6
-  seven_wide : Width 7
+-- ---- rows of w numbers, at least one
+module _ {w : ℕ} (some : 1 ≤ w) where
+  pub no_rows : w * 0 ≡ 0
+  no_rows = mul-zero w
 
-pub no_rows : {w : ℕ} → Width w → w * 0 ≡ 0
-no_rows six_wide = refl
-no_rows seven_wide = refl
+  pub one_wide : w * 1 ≡ w
+  one_wide = mul-one w
 
-pub one_wide : {w : ℕ} → Width w → w * 1 ≡ w
-one_wide six_wide = refl
-one_wide seven_wide = refl
+  one_row : (n : ℕ) → w + w * n ≡ w * suc n
+  one_row n = let e : w * (n + 1) ≡ w * n + w * 1 = mul-add w n 1 in rw (← add-one n) (omega (arith, e, one_wide))
 
-one_row : {w : ℕ} → Width w → (n : ℕ) → w + w * n ≡ w * suc n
-one_row six_wide n = omega arith
-one_row seven_wide n = omega arith
+  two_parts : (m n : ℕ) → w * (m + n) ≡ w * m + w * n
+  two_parts m n = mul-add w m n
 
-two_parts : {w : ℕ} → Width w → (m n : ℕ) → w * (m + n) ≡ w * m + w * n
-two_parts six_wide m n = omega arith
-two_parts seven_wide m n = omega arith
+  pub within : (m n k : ℕ) → k ≤ min (m / w) n → w * k ≤ m
+  within m n k h = let e : k ≤ m / w = omega (arith, h) in le_trans (mul-le-mul_left w e) (mul-div-le m w)
 
-pub within : {w : ℕ} → Width w → (m n k : ℕ) → k ≤ min (m / w) n → w * k ≤ m
-within six_wide m n k h = omega arith
-within seven_wide m n k h = omega arith
+  rows_left : (m k : ℕ) → k ≤ m / w → (m - w * k) / w ≡ m / w - k
+  rows_left m k h =
+      let parts : w * (m / w) + m % w ≡ m = div-add-mod m w in
+      let less : w * (m / w - k) ≡ w * (m / w) - w * k = mul-sub w (m / w) k in
+      let some-less : w * k ≤ w * (m / w) = mul-le-mul_left w h in
+      let turned : (m / w - k) * w ≡ w * (m / w - k) = mul_comm (m / w - k) w in
+      let e : m - w * k ≡ (m / w - k) * w + m % w = omega (arith, parts, less, some-less, turned) in
+      rw e (div-mul-add (m / w - k) w (m % w) (mod-lt m some))
 
-rooms_less : {w : ℕ} → Width w → (m n k : ℕ) → min ((m - w * k) / w) (n - k) ≡ min (m / w) n - k
-rooms_less six_wide m n k = omega arith
-rooms_less seven_wide m n k = omega arith
+  none_left : (m k : ℕ) → m / w < k → (m - w * k) / w ≡ m / w - k
+  none_left m k h =
+      let past : m < w * (m / w + 1) = lt-mul-div-succ m some in
+      let all : w * (m / w + 1) ≤ w * k = mul-le-mul_left w (omega (arith, h)) in
+      let none : m - w * k ≡ 0 = omega (arith, past, all) in
+      let none' : m / w - k ≡ 0 = omega (arith, h) in
+      rw (none, none') (zero-div w)
+
+  by_rows : (m k : ℕ) (b : Bool) → leb k (m / w) ≡ b → (m - w * k) / w ≡ m / w - k
+  by_rows m k true t = rows_left m k (leb-true k (m / w) t)
+  by_rows m k false t = none_left m k (leb-false k (m / w) t)
+
+  rooms_less : (m n k : ℕ) → min ((m - w * k) / w) (n - k) ≡ min (m / w) n - k
+  rooms_less m n k = rw (by_rows m k (leb k (m / w)) refl) (omega arith)
 
 -- a form whose rows are as wide as it says
 pub record Good (form : Form) : Type 0 where
-  pub width : Width form.wide
+  pub width : 1 ≤ form.wide
   pub long : (q : Answer) → length (form.numbers q) ≡ form.wide
 
 -- ---- lists

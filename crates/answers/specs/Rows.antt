@@ -1,7 +1,7 @@
 -- Answers written to the two lists that a caller lends, each as a row of numbers and a byte: six numbers, or seven on a track.
 -- Document 01: "writes the first answers that fit both lists. Elements past the last written answer keep their values, always." Document 02, request 2: "an answer is seven
 -- numbers and 9 counts sevens".
-use Rattle.std.specs.Prelude.{ℕ, min, ◌*◌, ◌/◌, ◌≡◌, Float}
+use Rattle.std.specs.Prelude.{ℕ, Bool, min, ◌*◌, ◌/◌, ◌≤◌, ◌≡◌, Float}
 use mathlib.Core.List.{List, ◌++◌, map, flat_map}
 use Rattle.std.proofs.Math.ListN.{length, take, drop}
 use Rattle.answers.specs.Answer.{byte}
@@ -11,6 +11,13 @@ use Rattle.answers.specs.declared.Answer.{Answer}
 pub record Form : Type 0 where
   pub wide : ℕ
   pub numbers : Answer → List Float
+
+-- the row and the flag that an answer is written as: as many numbers as the form takes, at least one
+pub record RowOf (form : Form) (q : Answer) (row : List Float) (is_ls : Bool) : Type 0 where
+  pub wide : form.wide ≡ length row
+  pub some : 1 ≤ form.wide
+  pub numbers : form.numbers q ≡ row
+  pub ls : q.is_ls ≡ is_ls
 
 module _ (form : Form) where
   -- how many answers the lists have room for: the angle list has whole rows, the flag list bytes

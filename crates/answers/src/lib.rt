@@ -3,6 +3,7 @@
 
 ghost use Rattle.std.specs.Prelude.{◌≡◌, ◌∷◌, [], min, ◌+◌, ◌*◌, ◌≤◌, ◌<◌, length};
 ghost use Rattle.answers.specs.Answer.{six};
+ghost use Rattle.answers.specs.Rows.{Form, RowOf, WroteOf};
 ghost use Rattle.answers.specs.Written.{Wrote};
 ghost use Rattle.answers.specs.Held.{read};
 
@@ -20,31 +21,42 @@ pub struct Answer {
 
 impl Answer {
     // The angles.
-    fn six(&self) -> [f64; 6]
+    pub fn six(&self) -> [f64; 6]
         ensures { result ≡ six self.now }
     {
         [self.q1, self.q2, self.q3, self.q4, self.q5, self.q6]
     }
 }
 
-// Writes the first answers that fit both lists. Here alone it is decided which answers go into the
-// lists. The result is the number of all.
+// Writes one answer, as a row of numbers and a byte, to the start of the rest of the lists, where it
+// fits both. Here alone an answer goes into the lists. The result is the number of answers: one.
+pub fn put_row(row: &[f64], is_ls: bool, angles: &mut [f64], flags: &mut [u8]) -> usize
+    ensures { (form : Form) (q : Answer) → RowOf form q row.now is_ls → WroteOf form (q ∷ []) angles.old flags.old angles.new flags.new result }
+{
+    let wide = row.len();
+    if wide <= angles.len() && 1 <= flags.len() {
+        angles[..wide].copy_from_slice(row);
+        flags[0] = u8::from(is_ls);
+    }
+    1
+}
+
+// The same for an answer of six numbers.
+pub fn put(q: Answer, angles: &mut [f64], flags: &mut [u8]) -> usize
+    ensures { Wrote (q ∷ []) angles.old flags.old angles.new flags.new result }
+{
+    put_row(&q.six(), q.is_ls, angles, flags)
+}
+
+// Writes the first answers that fit both lists. The result is the number of all.
 pub fn write(found: &[Answer], angles: &mut [f64], flags: &mut [u8]) -> usize
     ensures { Wrote found.now angles.old flags.old angles.new flags.new result }
 {
     let fit = (angles.len() / 6).min(flags.len()).min(found.len());
     for (k, q) in found[..fit].iter().enumerate() {
-        angles[6 * k..6 * k + 6].copy_from_slice(&q.six());
-        flags[k] = u8::from(q.is_ls);
+        put(*q, &mut angles[6 * k..], &mut flags[k..]);
     }
     found.len()
-}
-
-// Writes one answer to the start of the rest of the lists, where it fits both.
-pub fn put(q: Answer, angles: &mut [f64], flags: &mut [u8]) -> usize
-    ensures { Wrote (q ∷ []) angles.old flags.old angles.new flags.new result }
-{
-    write(&[q], angles, flags)
 }
 
 // Where the rest of a list begins: at n, or at its end where it has fewer.

@@ -8,7 +8,7 @@ use lib.ListN.{length}
 use lib.Seq.{take-nil}
 use Rattle.answers.specs.Rows.{room_of, fitting_of, written_of, flagged_of, WroteOf}
 use Rattle.answers.specs.declared.Answer.{Answer}
-use Rattle.answers.proofs.Rows.{Good, seven_wide}
+use Rattle.answers.proofs.Rows.{Good}
 use Rattle.track.specs.Sevens.{seven, parts, sevens}
 
 -- for each joint
@@ -27,7 +27,7 @@ unfolding seven
 seven_long joint angle q h = by_joint (λ j. length (seven j angle q) ≡ 7) refl refl refl refl refl refl refl joint h
 
 pub seven_good : (joint : ℕ) (angle : Float) → joint ≤ 6 → Good (sevens joint angle)
-seven_good joint angle h = record { width = seven_wide; long = λ q. seven_long joint angle q h }
+seven_good joint angle h = record { width = omega arith; long = λ q. seven_long joint angle q h }
 
 -- no answers leave the lists as they are, whatever the joint
 pub none_written : (joint : ℕ) (angle : Float) (a : List Float) (f : List ℕ) → WroteOf (sevens joint angle) [] a f a f 0

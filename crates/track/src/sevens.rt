@@ -1,9 +1,7 @@
 // Answers of seven angles: six, and the locked one at its joint.
-ghost use Rattle.std.specs.Prelude.{◌≡◌, ◌∷◌, [], ◌≤◌, length};
-ghost use Rattle.std.proofs.lemmas.List.Edits.{sets};
-ghost use Rattle.answers.specs.Answer.{flag};
+ghost use Rattle.std.specs.Prelude.{◌≡◌, ◌∷◌, [], ◌≤◌};
 ghost use Rattle.answers.specs.Rows.{WroteOf};
-ghost use Rattle.track.specs.Sevens.{seven, parts, sevens};
+ghost use Rattle.track.specs.Sevens.{seven, sevens};
 
 use answers::Answer;
 
@@ -24,26 +22,6 @@ fn seven(q: Answer, joint: usize, angle: f64) -> [f64; 7]
     }
 }
 
-fn flag(is_ls: bool) -> u8
-    ensures { result ≡ flag is_ls }
-{
-    if is_ls { 1 } else { 0 }
-}
-
-// Seven numbers to the start of a list that has room for them.
-fn write_seven(angles: &mut [f64], row: [f64; 7])
-    requires { 7 ≤ length angles.old }
-    ensures { angles.new ≡ sets angles.old 0 (parts row) }
-{
-    angles[0] = row[0];
-    angles[1] = row[1];
-    angles[2] = row[2];
-    angles[3] = row[3];
-    angles[4] = row[4];
-    angles[5] = row[5];
-    angles[6] = row[6];
-}
-
 // Writes an answer to the start of the rest of the lists, where it fits both. The result is the number
 // of answers: one.
 pub(crate) fn put_seven(
@@ -56,13 +34,5 @@ pub(crate) fn put_seven(
     requires { joint ≤ 6 }
     ensures { WroteOf (sevens joint angle) (q ∷ []) angles.old flags.old angles.new flags.new result }
 {
-    if angles.len() < 7 {
-        return 1;
-    }
-    if flags.len() < 1 {
-        return 1;
-    }
-    write_seven(angles, seven(q, joint, angle));
-    flags[0] = flag(q.is_ls);
-    1
+    answers::put_row(&seven(q, joint, angle), q.is_ls, angles, flags)
 }

@@ -1,16 +1,10 @@
 -- The laws of InTurn.antt, for rows of six.
-use mir.Val.{bool_byte}
-use Rattle.std.proofs.Common.{◌≡◌, ◌∙◌, refl, Bool, true, false, ◌<◌, length-take, arith}
-use Rattle.answers.specs.Answer.{flag}
+use Rattle.std.proofs.Common.{refl, ◌<◌, length-take, arith}
 use Rattle.answers.specs.Rows.{room_of}
 use Rattle.answers.specs.Written.{room}
 use Rattle.answers.proofs.InTurn.{one_more, whole}
 use Rattle.answers.proofs.Laws.{six_good, nothing}
 use Rattle.answers.proofs.write.Goals as goal
-
-is_flag : (b : Bool) → bool_byte b ≡ flag b
-is_flag true = refl
-is_flag false = refl
 
 pub loop-k-init : goal.loop-k-init
 loop-k-init c = nothing _ _
@@ -20,7 +14,7 @@ unfolding room_of
 loop-k-preserved c =
     let k = c.loop-k.k in
     let fits : k < room c.args.angles.now c.args.flags.now = omega (arith, simp length-take at c.loop-k-test.true) in
-    one_more _ six_good _ _ c.loop-k-test.true fits c.loop-k.invariant (omega arith) (omega arith) (c.copy_from_slice.ensures.after ∙ c.six.ensures) (c.from.ensures ∙ is_flag _)
+    one_more _ six_good _ _ c.loop-k-test.true fits c.loop-k.invariant (omega arith) (omega arith) refl c.put.ensures
 
 pub returns : goal.returns
 unfolding room_of
