@@ -48,11 +48,11 @@ impl Refusal {
 }
 
 // The number of what a call refuses, or 0.
-pub fn number_of(outcome: Result<(), Refusal>) -> u64
+pub fn number_of<T: Copy>(outcome: Result<T, Refusal>) -> u64
     ensures { result ≡ Numbers.number_of outcome }
 {
     match outcome {
-        Ok(()) => 0,
+        Ok(_) => 0,
         Err(refusal) => refusal.number(),
     }
 }

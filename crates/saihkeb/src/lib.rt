@@ -8,7 +8,7 @@
 
 ghost use Rattle.std.specs.Prelude.{◌≡◌, ◌∷◌, []};
 ghost use Rattle.std.proofs.lemmas.List.Edits.{sets};
-ghost use Rattle.answers.specs.Answer.{six, flag, byte};
+ghost use Rattle.answers.specs.Answer.{six, byte};
 ghost use Rattle.answers.specs.Rows.{room_of, written_of, flagged_of};
 ghost use Rattle.answers.specs.Written.{room, written, flagged};
 ghost use Rattle.solve.specs.Solve.{answers, solve};
@@ -91,12 +91,6 @@ pub extern "C" fn saihkeb_limits_block_lent(block: &[u8], limits: &mut [f64; 12]
     number_of(limits_block::limits_block(block, limits))
 }
 
-fn flag_of(is_ls: bool) -> u8
-    ensures { result ≡ flag is_ls }
-{
-    u8::from(is_ls)
-}
-
 // The answer of a one-answer call: its refusal as the result, its six angles and its flag.
 fn tell(one: Result<Answer, Refusal>, angles: &mut [f64; 6], flag: &mut [u8; 1]) -> u64
     ensures result { result ≡ (one_of one).refusal }
@@ -104,17 +98,9 @@ fn tell(one: Result<Answer, Refusal>, angles: &mut [f64; 6], flag: &mut [u8; 1])
     ensures flag { flag.new ≡ sets flag.old 0 (byte (one_of one).answer ∷ []) }
 {
     let q = answer_or_zeros(one);
-    angles[0] = q.q1;
-    angles[1] = q.q2;
-    angles[2] = q.q3;
-    angles[3] = q.q4;
-    angles[4] = q.q5;
-    angles[5] = q.q6;
-    flag[0] = flag_of(q.is_ls);
-    match one {
-        Ok(_) => 0,
-        Err(refusal) => refusal.number(),
-    }
+    angles.copy_from_slice(&q.six());
+    flag[0] = u8::from(q.is_ls);
+    number_of(one)
 }
 
 // One answer within the limits, or none. Which one is given is left open.
