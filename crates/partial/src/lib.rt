@@ -16,6 +16,24 @@ pub struct Partial {
     pub rotation: Matrix3,
 }
 
+// The joint that is locked, counted from 0, and its angle.
+#[derive(Clone, Copy)]
+pub struct Locked {
+    pub joint: usize,
+    pub angle: f64,
+    pub ghost seven_joints: { joint ≤ 6 },
+}
+
+impl Locked {
+    // The rotation of the joint at its angle.
+    #[tactic(auto, unfolding(crate::specs::Partial::locked_rotation))]
+    pub fn rotation(self, arm: &[f64; 45]) -> Matrix3
+        ensures { result ≡ locked_rotation arm.now self.angle self.joint }
+    {
+        linear::rot(vector_at(arm, 3 * self.joint), self.angle)
+    }
+}
+
 // Axis i of the arm that is left.
 #[tactic(auto, unfolding(crate::specs::Columns::axis))]
 fn axis(arm: &[f64; 45], n: usize, r_n: Matrix3, i: usize) -> Vector3
@@ -45,12 +63,12 @@ fn offset(arm: &[f64; 45], n: usize, r_n: Matrix3, i: usize) -> Vector3
     turned
 }
 
-// The arm that is left where joint n has the rotation r_n.
+// The arm that is left where the locked joint has the rotation r_n.
 #[tactic(auto, using(crate::proofs::Closed::columns))]
-fn kin_new(arm: &[f64; 45], n: usize, r_n: Matrix3) -> Kinematics
-    requires { n ≤ 6 }
-    ensures { result ≡ kin_new arm.now n r_n }
+fn kin_new(arm: &[f64; 45], lock: Locked, r_n: Matrix3) -> Kinematics
+    ensures { result ≡ kin_new arm.now lock.joint r_n }
 {
+    let n = lock.joint;
     Kinematics {
         h1: axis(arm, n, r_n, 0),
         h2: axis(arm, n, r_n, 1),
@@ -68,23 +86,13 @@ fn kin_new(arm: &[f64; 45], n: usize, r_n: Matrix3) -> Kinematics
     }
 }
 
-// The rotation of joint n at the angle q_n.
-#[tactic(auto, unfolding(crate::specs::Partial::locked_rotation))]
-pub fn locked_rotation(arm: &[f64; 45], q_n: f64, n: usize) -> Matrix3
-    requires { n ≤ 6 }
-    ensures { result ≡ locked_rotation arm.now q_n n }
-{
-    linear::rot(vector_at(arm, 3 * n), q_n)
-}
-
 #[tactic(auto, unfolding(crate::specs::Partial::forward_kinematics_partial))]
-pub fn forward_kinematics_partial(arm: &[f64; 45], q_n: f64, n: usize, r_6t: Matrix3) -> Partial
-    requires { n ≤ 6 }
-    ensures { result ≡ forward_kinematics_partial arm.now q_n n r_6t }
+pub fn forward_kinematics_partial(arm: &[f64; 45], lock: Locked, r_6t: Matrix3) -> Partial
+    ensures { result ≡ forward_kinematics_partial arm.now lock.angle lock.joint r_6t }
 {
-    let r_n = locked_rotation(arm, q_n, n);
+    let r_n = lock.rotation(arm);
     Partial {
-        kin: kin_new(arm, n, r_n),
+        kin: kin_new(arm, lock, r_n),
         rotation: linear::product(r_n, r_6t),
     }
 }

@@ -15,18 +15,11 @@ ghost use Rattle.track.specs.Sevens.{sevens};
 ghost use Rattle.track.specs.Track.{lockable, track_judge, track_refused, track_full, track_answers, solve_track, solve_left};
 
 use full_list::{FullList, Task};
+use partial::Locked;
 use reduced::{handed_on, reduced_arm};
 use refusals::{Family, Refusal, all_finite, judge_numbers, judge_shape};
 use sevens::put_seven;
 use solve::{Solved, given, refuse};
-
-// The joint that is locked, counted from 0, and its angle.
-#[derive(Clone, Copy)]
-struct Locked {
-    joint: usize,
-    angle: f64,
-    ghost seven_joints: { joint ≤ 6 },
-}
 
 fn lockable(joint: u64, angle: f64) -> bool
     ensures { result ≡ lockable joint angle }
@@ -72,8 +65,12 @@ fn judged(
     ensures joint { OnOk result (joint ≤ 6) }
 {
     let shaped = track_judge(family, n, arm, joint, angle, pose)?;
-    let left = reduced_arm(shaped.0, joint as usize, angle);
-    let to = handed_on(shaped.0, joint as usize, angle, shaped.1);
+    let lock = Locked {
+        joint: joint as usize,
+        angle,
+    };
+    let left = reduced_arm(shaped.0, lock);
+    let to = handed_on(shaped.0, lock, shaped.1);
     if !all_finite(&left) {
         return Err(Refusal::NotFinite);
     }
@@ -93,13 +90,7 @@ fn write_sevens(list: &FullList, lock: Locked, angles: &mut [f64], flags: &mut [
         let q = list.answer(k);
         let at = answers::rest(7 * count, angles.len());
         let on = answers::rest(count, flags.len());
-        count += put_seven(
-            q,
-            lock.joint,
-            lock.angle,
-            &mut angles[at..],
-            &mut flags[on..],
-        );
+        count += put_seven(q, lock, &mut angles[at..], &mut flags[on..]);
     }
     count
 }

@@ -1,8 +1,9 @@
 // The arm that is left where a joint is locked, as numbers, and the pose that it is to make.
-ghost use Rattle.std.specs.Prelude.{◌≡◌, ◌≤◌};
+ghost use Rattle.std.specs.Prelude.{◌≡◌};
 ghost use Rattle.track.specs.Reduced.{to_numbers, reduced_arm, handed_on};
 
 use kinematics::{Kinematics, Pose};
+use partial::Locked;
 
 fn to_numbers(kin: Kinematics) -> [f64; 39]
     ensures { result ≡ to_numbers kin }
@@ -27,19 +28,17 @@ fn to_numbers(kin: Kinematics) -> [f64; 39]
     ]
 }
 
-pub(crate) fn reduced_arm(arm: &[f64; 45], joint: usize, angle: f64) -> [f64; 39]
-    requires { joint ≤ 6 }
-    ensures { result ≡ reduced_arm arm.now joint angle }
+pub(crate) fn reduced_arm(arm: &[f64; 45], lock: Locked) -> [f64; 39]
+    ensures { result ≡ reduced_arm arm.now lock.joint lock.angle }
 {
-    let left = partial::forward_kinematics_partial(arm, angle, joint, linear::identity());
+    let left = partial::forward_kinematics_partial(arm, lock, linear::identity());
     to_numbers(left.kin)
 }
 
-pub(crate) fn handed_on(arm: &[f64; 45], joint: usize, angle: f64, pose: &[f64; 12]) -> [f64; 12]
-    requires { joint ≤ 6 }
-    ensures { result ≡ handed_on arm.now joint angle pose.now }
+pub(crate) fn handed_on(arm: &[f64; 45], lock: Locked, pose: &[f64; 12]) -> [f64; 12]
+    ensures { result ≡ handed_on arm.now lock.joint lock.angle pose.now }
 {
-    let r_n = partial::locked_rotation(arm, angle, joint);
+    let r_n = lock.rotation(arm);
     let wanted = kinematics::pose_rotation(pose);
     let back = linear::transpose(r_n);
     let rotation = linear::product(wanted, back);

@@ -12,11 +12,8 @@ returns-in_err-shaped-clause-refused c =
     let e : number_of c.from_residual.result ≡ number c.in_err-shaped.field-0.0 = search (rules, passed_on) in
     rw e (by_judge _ _ _ _ _ _ c.in_err-shaped.ensures.refused (number-positive _))
 
-pub reduced_arm-left-requires : goal.reduced_arm-left-requires
-reduced_arm-left-requires c = let fit = track_accepted _ _ _ _ _ _ c.in_ok-shaped.ensures.refused in fit.joint_high
-
-pub handed_on-to-requires : goal.handed_on-to-requires
-handed_on-to-requires c = let fit = track_accepted _ _ _ _ _ _ c.in_ok-shaped.ensures.refused in fit.joint_high
+pub invariant_of-lock : goal.invariant_of-lock
+invariant_of-lock c = let fit = track_accepted _ _ _ _ _ _ c.in_ok-shaped.ensures.refused in fit.joint_high
 
 pub returns-then-not-all_finite-clause-refused : goal.returns-then-not-all_finite-clause-refused
 returns-then-not-all_finite-clause-refused c = left-overflows _ _ _ _ _ _ c.in_ok-shaped.ensures.refused (left-of _ _ _ c.in_ok-shaped.ensures.arm c.reduced_arm-left.ensures) (to-of _ _ _ _ c.in_ok-shaped.ensures.arm c.in_ok-shaped.ensures.pose c.handed_on-to.ensures) c.all_finite.ensures c.if-not-all_finite.true

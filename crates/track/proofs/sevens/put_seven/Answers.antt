@@ -9,8 +9,8 @@ use Rattle.track.proofs.sevens.put_seven.Goals as goal
 
 pub returns : goal.returns
 returns c =
-    c.put_row.ensures (sevens c.args.joint c.args.angle) c.args.q (record {
-      wide = sym (ap length c.seven.ensures ∙ seven_long c.args.joint c.args.angle c.args.q c.requires);
+    c.put_row.ensures (sevens c.args.lock.joint c.args.lock.angle) c.args.q (record {
+      wide = sym (ap length c.seven.ensures ∙ seven_long c.args.lock.joint c.args.lock.angle c.args.q c.args.lock.seven_joints);
       some = omega arith;
       numbers = sym c.seven.ensures;
       ls = refl;
