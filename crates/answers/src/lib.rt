@@ -1,4 +1,5 @@
-// Answers, the one writer of answers to the two lists that a caller lends, and the reader.
+// Answers, the one writer of answers to the two lists that a caller lends, and the reader. Angles and flags are
+// two lists, and no list of structs, since a caller in C lends them so.
 #![tactic(auto)]
 
 ghost use Rattle.std.specs.Prelude.{◌≡◌, ◌∷◌, [], min, ◌+◌, ◌*◌, ◌≤◌, ◌<◌, length};
@@ -7,7 +8,8 @@ ghost use Rattle.answers.specs.Rows.{Form, RowOf, WroteOf};
 ghost use Rattle.answers.specs.Written.{Wrote};
 ghost use Rattle.answers.specs.Held.{read};
 
-// Six angles, and whether they are only the nearest in the sense of least squares.
+// Six angles, and whether they are only the nearest in the sense of least squares. It is an answer either way,
+// and so no Option.
 #[derive(Clone, Copy, Default)]
 pub struct Answer {
     pub q1: f64,

@@ -42,7 +42,8 @@ pub fn usable(arm: &[f64; 39], pose: &[f64; 12], qs: &[f64], cs: &[u8], pairs: u
     (0..pairs).all(|k| answered(arm, pose, qs[k], cs[k]))
 }
 
-// What a search that is over gives: the answers of its pairs go to the two lists.
+// What a search that is over gives: the answers of its pairs go to the two lists. (The pairs lie in two lists of
+// memory that a caller in C lends.)
 pub fn finish(
     arm: &[f64; 39],
     pose: &[f64; 12],

@@ -73,6 +73,8 @@ impl GivenQ1<'_> {
     }
 }
 
+// `origin` is the same for all q1; p_0t is for the contract alone. One function asks this, and once: a struct
+// for it would be longer.
 #[tactic(auto, using(families_shared::proofs::Gathered::whole), unfolding(crate::specs::SphericalTwoParallel::at_q1, crate::specs::SphericalTwoParallel::p_13))]
 fn at_q1(
     arm: &Arm,

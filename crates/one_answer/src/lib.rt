@@ -32,7 +32,8 @@ fn find_one(task: &Task, limits: Limits) -> Option<Answer>
     full_list::with_list(task, &mut |list| first_allowed(list, limits))
 }
 
-// Refusals 10, 4 to 8 and, where no answer is inside the limits, 12; else an answer.
+// Refusals 10, 4 to 8 and, where no answer is inside the limits, 12; else an answer. `family` and `n` are numbers,
+// as a caller in C hands them over: refusals 4 and 7 are about them.
 pub fn solve_one(
     family: u64,
     n: u64,

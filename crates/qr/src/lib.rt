@@ -14,7 +14,8 @@ pub struct Vector4 {
     pub w: f64,
 }
 
-// The four columns of Q, of which the last two are the null vectors, and R.
+// The four columns of Q, of which the last two are the null vectors, and R. (Fields and no list: whoever takes
+// one takes it by its name, as the definition does.)
 #[derive(Clone, Copy)]
 pub struct QrFactors {
     pub q0: Vector4,

@@ -96,7 +96,8 @@ pub fn last_dip<const N: usize>(branch: &Branch, row: Row, l: usize, list: &mut 
     dip_if(branch, falls_to(a.y, b.y), a, b, list);
 }
 
-// A dip that comes from before the first sample, l.
+// A dip that comes from before the first sample, l. (Two functions, as the definition has them: they differ in
+// the test alone, and one that is handed its test would be no shorter than the two.)
 pub fn first_dip<const N: usize>(branch: &Branch, row: Row, l: usize, list: &mut PairList<N>)
     requires { Roomy 1000000 list.old }
     ensures { (o : Place → Origin) → ((p : Place) → component (o p) ≡ branch.now.i) → state list.new ≡ afterwards (state list.old) (first_dip (branch_error branch.now) o (points row.entry) l) }

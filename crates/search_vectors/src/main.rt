@@ -45,7 +45,8 @@ struct Most {
     evals: u64,
 }
 
-// All checks of one search, whose m pairs are in the book.
+// All checks of one search, whose m pairs are in the book. (The book is a record's, with room for the most pairs
+// that there can be: `oracle layout` has it, so it goes with a count.)
 fn check_search(
     head: &[u8; 432],
     book: &[u8; 1830400],

@@ -81,6 +81,7 @@ fn write(list: &FullList, limits: Limits, angles: &mut [f64], flags: &mut [u8]) 
     given(count, list.evals(), sixes, bytes)
 }
 
+// The call. `family` and `n` are numbers, as a caller in C hands them over: refusals 4 and 7 are about them.
 pub fn solve(
     family: u64,
     n: u64,

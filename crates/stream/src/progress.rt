@@ -127,7 +127,8 @@ impl Progress {
         if self.ended { Ask::Stop } else { Ask::Read }
     }
 
-    // After a write; one that takes nothing has failed.
+    // After a write; one that takes nothing has failed. (How much it took is asked of the caller, here and after a
+    // read: std's calls promise it, and no type of theirs says it.)
     #[tactic(auto, using(crate::proofs::Took::took_is))]
     pub fn after_write(&mut self, gave: Option<usize>)
         requires { self.old.written + count gave ≤ length self.old.lines.out.items }

@@ -1,4 +1,5 @@
-// The forms that give the sine and cosine of an angle in place of the angle.
+// The forms that give the sine and cosine of an angle in place of the angle. They share no arithmetic with those
+// of `subproblems`: the Rust writes them in another order of operations, and each rounds.
 #![tactic(auto)]
 
 ghost use Rattle.std.specs.Prelude.{◌≡◌};

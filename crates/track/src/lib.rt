@@ -117,6 +117,8 @@ fn solve_left(task: &Task, lock: Locked, angles: &mut [f64], flags: &mut [u8]) -
     full_list::with_list(task, &mut |list| write_left(list, lock, angles, flags))
 }
 
+// The call. `family`, `n` and `joint` are numbers, as a caller in C hands them over: refusals 4, 7 and 11 are
+// about them.
 pub fn solve_track(
     family: u64,
     n: u64,
