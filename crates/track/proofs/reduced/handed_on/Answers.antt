@@ -1,6 +1,6 @@
 -- The wanted rotation times the transpose of the locked joint's own.
 use Prim.Native.Nat.{ℕ}
-use mathlib.Core.Path.{◌≡◌}
+use Rattle.std.proofs.Common.{◌≡◌, ◌∙◌, ap, ap₂}
 use mathlib.Core.List.{List}
 use lib.Ieee.{Float}
 use Rattle.linear.specs.Matrix.{Matrix, product, transpose}
@@ -20,7 +20,9 @@ met : (arm : List Float) (joint : ℕ) (angle : Float) (pose : List Float) {r-n 
     → l ≡ pose_numbers (record { rotation = r; place = p })
     → l ≡ handed_on arm joint angle pose
 unfolding handed_on
-met arm joint angle pose e-n e-w e-t e-r e-p e-l = rw (← e-n, ← e-t, ← e-w, ← e-r, ← e-p) e-l
+met arm joint angle pose {r = r} e-n e-w e-t e-r e-p e-l =
+    let rotation : r ≡ product (pose_rotation pose) (transpose (locked_rotation arm angle joint)) = e-r ∙ ap₂ product e-w (e-t ∙ ap transpose e-n) in
+    e-l ∙ ap₂ (λ (m : Matrix) (place : Vector3). pose_numbers (record { rotation = m; place = place })) rotation e-p
 
 pub returns : goal.returns
 returns c = search met
