@@ -11,6 +11,11 @@ use lib.ListN.{length}
 use Rattle.limits.specs.Limits.{TwelveOrNone, fit, refusal_10}
 
 module _ (l : List Float) where
+  -- limits of any other number are refused
+  pub another_length : (length l ≡ 0 → ⊥) → (length l ≡ 12 → ⊥) → 10 ≡ refusal_10 l
+  unfolding refusal_10
+  another_length some h = rw (ne_eqb (length l) 0 some, ne_eqb (length l) 12 h)
+
   -- limits that are not refused are twelve or none
   by_refusal : (a b : Bool) → ◌≡◌ {A = ℕ} (cond a 0 (cond b 0 10)) 0 → (a ≡ false) → b ≡ true
   by_refusal a true e f = refl
