@@ -13,7 +13,7 @@ returns-in_err-shaped-clause-refused c =
     rw e (by_judge _ _ _ _ _ _ c.in_err-shaped.ensures.refused (number-positive _))
 
 pub invariant_of-lock : goal.invariant_of-lock
-invariant_of-lock c = let fit = track_accepted _ _ _ _ _ _ c.in_ok-shaped.ensures.refused in fit.joint_high
+invariant_of-lock c = let fit = track_accepted _ _ _ _ _ _ c.in_ok-shaped.ensures.refused in record { seven_joints = fit.joint_high }
 
 pub returns-then-not-all_finite-clause-refused : goal.returns-then-not-all_finite-clause-refused
 returns-then-not-all_finite-clause-refused c = left-overflows _ _ _ _ _ _ c.in_ok-shaped.ensures.refused (left-of _ _ _ c.in_ok-shaped.ensures.arm c.reduced_arm-left.ensures) (to-of _ _ _ _ c.in_ok-shaped.ensures.arm c.in_ok-shaped.ensures.pose c.handed_on-to.ensures) c.all_finite.ensures c.if-not-all_finite.true
