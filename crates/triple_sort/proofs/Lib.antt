@@ -1,3 +1,4 @@
 pub mod NumberOrder
+pub mod Sooner
 pub mod Sorting
 pub mod Passes

@@ -7,10 +7,11 @@ use mathlib.Core.Bool.{Bool, true, false, cond, true≢false}
 use mathlib.Core.List.{List, [], ◌∷◌, ◌++◌, append-nil}
 use lib.ListN.{length}
 use Rattle.solutionset.specs.declared.Triple.{Triple}
-use Rattle.triple_sort.specs.Sort.{triple_above, ordered_above, carry, pass, passes, sort}
-use Rattle.triple_sort.specs.Sorted.{Orders, Every, Sorted, Permuted, none, after, exchange, then, those, level, SortSorts, FirstSortSorts, SecondSortSorts}
+use Rattle.triple_sort.specs.Sort.{triple_above, ordered_above, carry, pass, sort}
+use Rattle.triple_sort.specs.Sorted.{all_passes, Orders, Every, Sorted, Permuted, none, after, exchange, then, those, level, SortSorts, FirstSortSorts, SecondSortSorts}
 use Rattle.triple_sort.specs.declared.Ordered.{Ordered}
 use Rattle.scalar.proofs.Order.{by_test}
+use Rattle.triple_sort.proofs.Sooner.{same_result}
 use Rattle.triple_sort.proofs.NumberOrder.{triple_orders, ordered_orders}
 
 module _ {A : Type 0} where
@@ -36,8 +37,8 @@ module _ {A : Type 0} (above : A → A → Bool) where
   permuted_pass [] = none
   permuted_pass (a ∷ l) = permuted_carry a l
 
-  permuted_passes : (k : ℕ) (l : List A) → Permuted l (passes above k l)
-  unfolding passes
+  permuted_passes : (k : ℕ) (l : List A) → Permuted l (all_passes above k l)
+  unfolding all_passes
   permuted_passes zero l = permuted_refl l
   permuted_passes (suc k) l = then (permuted_pass l) (permuted_passes k (pass above l))
 
@@ -56,8 +57,8 @@ module _ {A : Type 0} (above : A → A → Bool) where
     those_pass [] = refl
     those_pass (a ∷ l) = those_carry a l
 
-    those_passes : (k : ℕ) (l : List A) → those p (passes above k l) ≡ those p l
-    unfolding passes
+    those_passes : (k : ℕ) (l : List A) → those p (all_passes above k l) ≡ those p l
+    unfolding all_passes
     those_passes zero l = refl
     those_passes (suc k) l = those_passes k (pass above l) ∙ those_pass l
 
@@ -129,8 +130,8 @@ module _ {A : Type 0} (above : A → A → Bool) (orders : Orders above) where
       → length front ≤ suc k
       → Sorted above back
       → Every (λ x. Every (λ y. above x y ≡ false) back) front
-      → Sorted above (passes above k (front ++ back))
-  unfolding passes pass
+      → Sorted above (all_passes above k (front ++ back))
+  unfolding all_passes pass
   sorted_passes zero [] back n s u = s
   sorted_passes zero (a ∷ []) back n s u = (u.0, s)
   sorted_passes zero (a ∷ b ∷ front) back n s u = absurd (omega arith)
@@ -157,10 +158,11 @@ pub sort_sorts : SortSorts
 unfolding sort
 sort_sorts A above orders l =
     let k = length l - 1 in
+    let e = same_result above k l in
     record {
-      sorted = rw append-nil at (sorted_passes above orders k l [] (omega arith) tt (under l));
-      permuted = permuted_passes above k l;
-      stable = (λ a. those_passes above (level above a) (apart above orders a) k l);
+      sorted = rw e (rw append-nil at (sorted_passes above orders k l [] (omega arith) tt (under l)));
+      permuted = rw e (permuted_passes above k l);
+      stable = (λ a. rw e (those_passes above (level above a) (apart above orders a) k l));
     }
   where
     under : (m : List A) → Every (λ x. Unit {0}) m

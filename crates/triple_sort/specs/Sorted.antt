@@ -1,8 +1,9 @@
 -- What `sort` of Sort.antt is for, stated for every list and every comparison that orders its values: its result is in order, and it is the list
 -- permuted in such a way that equals keep their order. The proof is in proofs/Sorting.antt.
-use Rattle.std.specs.Prelude.{◌≡◌, Bool, true, false, cond, not, ◌&&◌, List, [], ◌∷◌}
+use Prim.Native.Nat.{ℕ, zero, suc, ◌-◌}
+use Rattle.std.specs.Prelude.{◌≡◌, ◌≤◌, length, Bool, true, false, cond, not, ◌&&◌, List, [], ◌∷◌}
 use Rattle.solutionset.specs.declared.Triple.{Triple}
-use Rattle.triple_sort.specs.Sort.{triple_above, ordered_above, sort}
+use Rattle.triple_sort.specs.Sort.{triple_above, ordered_above, pass, sort}
 use Rattle.triple_sort.specs.declared.Ordered.{Ordered}
 
 module _ {A : Type 0} where
@@ -51,3 +52,21 @@ FirstSortSorts = (l : List Triple) → Sorts triple_above l (sort triple_above l
 
 abbrev pub SecondSortSorts : Type 0
 SecondSortSorts = (l : List Ordered) → Sorts ordered_above l (sort ordered_above l).result
+
+-- ---- ending sooner
+module _ {A : Type 0} (above : A → A → Bool) where
+  -- k passes, whether they exchange any or not
+  unfoldable pub all_passes : ℕ → List A → List A
+  all_passes zero l = l
+  all_passes (suc k) l = all_passes k (pass above l)
+
+  -- "Its result is as before": that of one pass fewer than there are members. The number of passes: "at most one fewer than there are candidates"; none of no member
+  -- or of one; of more that are in order the one that exchanges none
+  pub record Sooner (l : List A) : Type 0 where
+    pub as_before : (sort above l).result ≡ all_passes (length l - 1) l
+    pub within : (sort above l).passes ≤ length l - 1
+    pub no_pass : length l ≤ 1 → (sort above l).passes ≡ 0
+    pub one_pass : 2 ≤ length l → Sorted above l → (sort above l).passes ≡ 1
+
+abbrev pub SortSooner : Type 1
+SortSooner = (A : Type 0) (above : A → A → Bool) (l : List A) → Sooner above l

@@ -2,8 +2,8 @@
 #![tactic(auto)]
 
 ghost use Rattle.std.specs.Prelude.{◌≡◌};
-ghost use Rattle.triple_sort.specs.Port.{in_order};
-ghost use Rattle.triple_sort.specs.Sort.{ordered_above, pass};
+ghost use Rattle.triple_sort.specs.Port.{sorted};
+ghost use Rattle.triple_sort.specs.Sort.{ordered_above, exchanges, pass, sort};
 
 use solutionset::Triple;
 use std::cmp::OrderedFloat;
@@ -44,22 +44,30 @@ fn ordered_above(a: Ordered, b: Ordered) -> bool
     a.key() > b.key()
 }
 
-// A pass: two neighbours are exchanged exactly if the earlier is above the later.
-fn pass(t: &mut [Ordered])
-    ensures { t.new ≡ pass ordered_above t.old }
+// A pass: two neighbours are exchanged exactly if the earlier is above the later. Whether any were.
+fn pass(t: &mut [Ordered]) -> bool
+    ensures list { t.new ≡ pass ordered_above t.old }
+    ensures any { result ≡ exchanges ordered_above t.old }
 {
+    let mut any = false;
     for j in 1..t.len() {
         if ordered_above(t[j - 1], t[j]) {
             t.swap(j - 1, j);
+            any = true;
         }
     }
+    any
 }
 
-// In order, equals in the order in which they came.
-pub fn sort(t: &mut [Ordered])
-    ensures { t.new ≡ in_order ordered_above t.old }
+// In order, equals in the order in which they came. Passes up to and with the first that exchanges none, at most
+// one fewer than there are members; the result is their number.
+pub fn sort(t: &mut [Ordered]) -> usize
+    ensures { sorted t.new result ≡ sort ordered_above t.old }
 {
-    for _k in 1..t.len() {
-        pass(t);
+    for made in 1..t.len() {
+        if !pass(t) {
+            return made;
+        }
     }
+    t.len().saturating_sub(1)
 }
