@@ -80,9 +80,9 @@ at_root c1 c3 k2 h =
     cond (lt (sq c1 h) nought) []
     (cond (lt (sq c3 h) nought) [] (of_points k2 (points c1 h (sq c1 h) hk2) (points c3 h (sq c3 h) hk2)))
 
--- ---- of reduced_solutionset: a solution with the ordering value 0.0, and the loop over such
-abbrev pub unordered : Triple → Ordered
-unordered solution = record { ordering = nought; solution = solution }
+-- ---- of reduced_solutionset: a solution with its first number as the ordering value, and the loop over such
+abbrev pub by_first : Triple → Ordered
+by_first solution = record { ordering = solution.first; solution = solution }
 
 abbrev pub with_gaps : Float → List Ordered → List Ordered
 with_gaps last l = with_ordering last (map solution_of l)

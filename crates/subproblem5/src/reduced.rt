@@ -2,22 +2,22 @@
 ghost use Rattle.std.specs.Prelude.{◌≡◌, map, ◌≤◌, length, take};
 ghost use Rattle.float.specs.Num.{infinity};
 ghost use Rattle.solutionset.specs.SolutionSet4.{from_vec};
-ghost use Rattle.subproblem5.specs.Port.{unordered, with_gaps};
+ghost use Rattle.subproblem5.specs.Port.{by_first, with_gaps};
 ghost use Rattle.subproblem5.specs.Reduced.{solution_of, reduced_solutionset};
 
 use arrayvec::ArrayVec;
 use solutionset::{SolutionSet4, Triple};
 use triple_sort::{Ordered, sort};
 
-// The solutions with one ordering value for all: as such they sort by the triple alone. A loop of pushes,
-// and not `map` and `collect`: that takes an allocator, and may fail.
-fn unordered(solutions: &ArrayVec<Triple, 16>) -> ArrayVec<Ordered, 16>
-    ensures { result.items ≡ map unordered solutions.now.items }
+// The solutions with their first numbers as ordering values: as such they sort by the triple, of which that is what
+// decides first. A loop of pushes, and not `map` and `collect`: that takes an allocator, and may fail.
+fn by_first(solutions: &ArrayVec<Triple, 16>) -> ArrayVec<Ordered, 16>
+    ensures { result.items ≡ map by_first solutions.now.items }
 {
     let mut ordered = ArrayVec::new();
     for solution in solutions.iter() {
         ordered.push(Ordered {
-            ordering: 0.0,
+            ordering: solution.first,
             solution: *solution,
         });
     }
@@ -53,7 +53,7 @@ pub fn reduced_solutionset(solutions: &ArrayVec<Triple, 16>) -> SolutionSet4<Tri
     if solutions.len() <= 4 {
         return SolutionSet4::from_vec(solutions);
     }
-    let mut ordered = unordered(solutions);
+    let mut ordered = by_first(solutions);
     sort(&mut ordered);
     with_ordering(&mut ordered);
     sort(&mut ordered);

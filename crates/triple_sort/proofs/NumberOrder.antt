@@ -9,7 +9,7 @@ use Rattle.std.specs.Ordering.{nan_last_cmp, is_gt, is_lt, is_some_and, ordering
 use Rattle.std.proofs.lemmas.Cmp.{upto, on_total, then_total}
 use Rattle.std.proofs.lemmas.Float.{nan_last}
 use Rattle.scalar.proofs.Order.{by_test, lt_one_way, lt_nan}
-use Rattle.triple_sort.specs.Sort.{number_above, triple_above, ordered_above}
+use Rattle.triple_sort.specs.Sort.{number_above, then_by, triple_above, ordered_above}
 use Rattle.triple_sort.specs.Sorted.{Orders}
 use Rattle.solutionset.specs.declared.Triple.{Triple}
 use Rattle.triple_sort.specs.declared.Ordered.{Ordered}
@@ -102,3 +102,9 @@ pub key_above : (a b : Ordered)
     (Some (nan_last_cmp a.solution.third b.solution.third)))
     ≡ ordered_above a b
 key_above a b = regrouped _ _ _ _ ∙ sym (ordered_is a b)
+
+-- to go by the same two numbers twice is to go by them once
+pub then_by_twice : (a b : Float) (rest : Bool) → then_by a b (then_by a b rest) ≡ then_by a b rest
+then_by_twice a b rest =
+    by_test (number_above a b) (λ e. rw e refl)
+    (λ e. by_test (number_above b a) (λ g. rw (e, g) refl) (λ g. rw (e, g) refl))
