@@ -49,10 +49,9 @@ at a limit may be beyond it in a later place than is shown.
 
 One answer: with --one each pose shows a single answer within its limits, the first of the list that the
 program prints, or 'refused (12): no answer within the limits' and how many there are outside. The library's
-call, saihkeb_solve_one, gives one of the answers of the list too, and document 02 leaves open which; so the
-controller's may be another one of the list. It may be flagged, miss the pose or, without limits, be NaN, as
-any answer of a list may, while another one makes the pose: the table says how many do. The call has no
-refusal 9 and reports no evaluations, and it takes no arm of seven axes.
+call, saihkeb_solve_one, gives the same one for these numbers: the first. It may be flagged, miss the pose or,
+without limits, be NaN, as any answer of a list may, while another one makes the pose: the table says how many
+do. The call has no refusal 9 and reports no evaluations, and it takes no arm of seven axes.
 
 An arm of seven axes, an arm on a track for one, has h1 to h7 and p0 to p7, and one of its joints is locked:
 
@@ -827,8 +826,8 @@ def show(sheet, results, free, one=False):
         yield f"than a millionth of the arm's size, or the rotation by more than {TURN_OFF:g} degrees."
     if one:
         yield ""
-        yield "One answer: the first of the list. The library's call, saihkeb_solve_one, gives one of the list,"
-        yield "and which one is left open; --help says more."
+        yield "One answer: the first of the list, as the library's call, saihkeb_solve_one, gives it; another"
+        yield "one of the list may be better: --help says more."
     if sheet.seven():
         yield ""
         yield "The joint was locked by this script, and the library's call, saihkeb_solve_track, may differ"

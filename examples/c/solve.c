@@ -3,7 +3,7 @@
  *
  *   solve          the pose below, in degrees
  *   solve inside   the same, with the answers inside the joint limits below alone
- *   solve one      one answer inside these limits, which may be any of them
+ *   solve one      the first answer inside these limits
  *   solve block    that pose as a block of 512 bytes, which the program ik reads too
  *   solve limits   these limits as a limits block
  *   solve lines    blocks from standard input, limits blocks among them, and the program's lines for each

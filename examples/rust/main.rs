@@ -3,7 +3,7 @@
 //!
 //!   solve          the pose below, in degrees
 //!   solve inside   the same, with the answers inside the joint limits below alone
-//!   solve one      one answer inside these limits, which may be any of them
+//!   solve one      the first answer inside these limits
 //!   solve track    the same arm on a turntable, which is locked (track.rs; in C examples/c/track.c)
 //!   solve arms     the pose below, by an arm that is found in a file of arms (arms.rs; in C examples/c/arms.c)
 //!   solve lines    blocks from standard input, limits blocks among them, and the program's lines for each

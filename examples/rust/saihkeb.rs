@@ -164,8 +164,8 @@ pub fn limits_block(block: &[u8]) -> Result<[f64; 12], u64> {
     }
 }
 
-/// One answer of those that `solve` gives with the same limits, its six angles and its flag, or the refusal: 12
-/// where there is none. Which of several it is, is left open.
+/// The first of the answers that `solve` gives with the same limits, its six angles and its flag, or the refusal:
+/// 12 where there is none.
 pub fn solve_one(
     family: u64,
     n: u64,

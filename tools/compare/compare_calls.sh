@@ -8,14 +8,13 @@
 # environment variable SAIHKEB_LIBRARY names another library, and nothing is built then. Needs rt, cargo and a C
 # compiler. Prints how often each call gave which refusal, and how often each family, and each locked joint, was
 # solved; exit status 1 where a line differs.
-# With --one: document 02 leaves open, until its request 6, which answer of the list is given. The reference
-# program gives the first, and so does the port: the two are held against each other bit for bit, which is
-# stricter than the document. Refusal 12 is told apart: where the pose has answers, all outside the limits, and
-# where it has none without limits either (the reference program's `solve` of the same call says which).
+# With --one both give the first answer of the list within the limits, and are held against each other bit for bit.
+# Refusal 12 is told apart: where the pose has answers, all outside the limits, and where it has none without limits
+# either (the reference program's `solve` of the same call says which).
 set -euo pipefail
 generator=generate-calls
 case ${1:-} in --*) generator=generate-${1#--}; shift ;; esac
-[ $# -ge 1 ] || { sed -n '2,14s/^# *//p' "$0" >&2; exit 2; }
+[ $# -ge 1 ] || { sed -n '2,13s/^# *//p' "$0" >&2; exit 2; }
 library=$([ -z "${SAIHKEB_LIBRARY:-}" ] || realpath "$SAIHKEB_LIBRARY")
 cd "$(dirname "$0")/../.."
 count=$1 seed=${2:-1}

@@ -294,11 +294,43 @@ def angles(t, name):
         t.say(name, text, at_pi > 0 and holds)
 
 
+def first_answers(t, family, arm, poses):
+    """How many poses have a flagged first answer and another that is not; and how many have another first answer,
+    0.01 or more away, with each number of the pose one last place higher."""
+    above = [[math.nextafter(x, math.inf) for x in pose] for pose in poses]
+    lists, others = ([result.angles for result in trial.lists(t.words, family, [(arm, pose) for pose in some])]
+                     for some in (poses, above))
+    flagged = sum(one[0][1] and not all(flag for _, flag in one) for one in lists if one)
+    pairs = [(one[0][0], other[0][0]) for one, other in zip(lists, others) if one and other]
+    return flagged, sum(not trial.same(one, other, 0.01) for one, other in pairs)
+
+
+# Of 100 poses in claim `first`, in families 1 to 3, 4 and 5, and 6: the least and the most for each number.
+FIRSTS = {
+    "random angles": [(0, 0.5, 0, 0), (10, 17, 0, 0), (45, 60, 10, 20)],
+    "whole 15 degrees": [(1, 6, 1, 7), (10, 23, 1, 5), (45, 60, 10, 20)],
+}
+
+
+def first(t, name):
+    """The first answer on arms by name; along-axis has empty lists."""
+    for kind in FIRSTS:
+        for which in (which for which in trial.ARMS if which != "along-axis"):
+            family, arm, rng = trial.family_of(which), trial.named(which), random.Random(f"{t.seed} {which}")
+            count, group = 500 if family == 6 else 2000, (family > 3) + (family > 5)
+            turned = [[180 * rng.uniform(-1, 1) if kind[0] == "r" else 15 * rng.randint(-12, 12) for _ in range(6)]
+                      for _ in range(count)]
+            flagged, apart = first_answers(t, family, arm, [trial.pose_of(arm, degrees(*one)) for one in turned])
+            least, most, fewest, farthest = (share * count / 100 for share in FIRSTS[kind][group])
+            t.say(name, f"family {family}, {which}, {count} poses from {kind}: first answer flagged and another not"
+                  f" {flagged}; first answers apart {apart}", least <= flagged <= most and fewest <= apart <= farthest)
+
+
 CLAIMS = {
     "lengths": lengths, "length-example": length_example, "rotations": rotations, "unread": unread,
     "left-out": left_out, "opposite": opposite, "told": told, "parallel": parallel, "plane": plane,
     "turned-wrist": turned_wrist, "home": home, "straight": straight, "unit": unit, "longest": longest,
-    "angles": angles,
+    "angles": angles, "first": first,
 }
 
 

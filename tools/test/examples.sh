@@ -33,14 +33,11 @@ cmp "$log/program" "$log/rust"
 target/examples/solve_c inside | cmp "$log/inside" -
 target/examples/solve_rust inside | cmp "$log/inside" -
 echo "degrees: $(wc -l <"$log/program") answers, $(wc -l <"$log/inside") inside the limits, C and Rust as the program"
-# The one answer is any of these.
-target/examples/solve_c one >"$log/one_c"
-target/examples/solve_rust one >"$log/one_rust"
-for one in "$log/one_c" "$log/one_rust"; do
-    [ "$(wc -l <"$one")" -eq 1 ]
-    grep -qxFf "$one" "$log/inside"
-done
-echo "one answer: C and Rust give one of the $(wc -l <"$log/inside") inside the limits"
+# The one answer is the first of these.
+head -n 1 "$log/inside" >"$log/one"
+target/examples/solve_c one | cmp "$log/one" -
+target/examples/solve_rust one | cmp "$log/one" -
+echo "one answer: C and Rust give the first of the $(wc -l <"$log/inside") inside the limits"
 # On a turntable the same arm has the same answers behind the locked angle, and each makes the pose.
 sed 's/^/   50.0000/; s/$/  makes the pose/' "$log/program" >"$log/track"
 target/examples/track_c | cmp "$log/track" -

@@ -447,13 +447,10 @@ static void forward(void)
           "then 18");
 }
 
-/* Whether it is one of the answers that stand in the lists, with its flag. */
-static int member(void)
+/* Whether it is the first of the answers that stand in the lists, with its flag. */
+static int is_first(void)
 {
-    for (uint64_t i = 0; i < counts[0]; i++)
-        if (!memcmp(angles + 6 * i, one + 1, 6 * sizeof *one) && flags[i] == one_flag[1])
-            return around_one();
-    return 0;
+    return counts[0] > 0 && !memcmp(angles, one + 1, 6 * sizeof *one) && flags[0] == one_flag[1] && around_one();
 }
 
 /* The whole arm and pose, as both calls see them. */
@@ -464,7 +461,7 @@ static void one_as_list(uint64_t family, uint64_t n, const double *limits, size_
                                      6 * ROOM, flags, ROOM, counts);
     uint64_t got = solve_one(family, n, arm, SAIHKEB_ARM, pose, SAIHKEB_POSE, limits, length);
     check(refusal == 0 && got == (counts[0] ? 0 : 12), "one: 12 exactly if the list is empty");
-    check(got ? zeros() : member(), "one: an answer of the list, or zeros");
+    check(got ? zeros() : is_first(), "one: the first answer of the list, or zeros");
 }
 
 static void one_nulls(void)
@@ -473,10 +470,10 @@ static void one_nulls(void)
     check(solve_one(1, 0, NULL, SAIHKEB_ARM, pose, SAIHKEB_POSE, NULL, 0) == 5 && zeros(), "one: arm NULL");
     check(solve_one(1, 0, arm, SAIHKEB_ARM, NULL, SAIHKEB_POSE, NULL, 0) == 6 && zeros(), "one: pose NULL");
     solve(1, 0, arm, pose);
-    check(solve_one(1, 0, arm, SAIHKEB_ARM, pose, SAIHKEB_POSE, NULL, 0) == 0 && member(), "one: limits NULL, 0");
-    check(solve_one(1, 0, arm, SAIHKEB_ARM, pose, SAIHKEB_POSE, NULL, 11) == 0 && member(),
+    check(solve_one(1, 0, arm, SAIHKEB_ARM, pose, SAIHKEB_POSE, NULL, 0) == 0 && is_first(), "one: limits NULL, 0");
+    check(solve_one(1, 0, arm, SAIHKEB_ARM, pose, SAIHKEB_POSE, NULL, 11) == 0 && is_first(),
           "one: limits NULL with a length");
-    check(solve_one(1, 0, arm, SAIHKEB_ARM, pose, SAIHKEB_POSE, arm, 0) == 0 && member(), "one: a list of no limits");
+    check(solve_one(1, 0, arm, SAIHKEB_ARM, pose, SAIHKEB_POSE, arm, 0) == 0 && is_first(), "one: a list of no limits");
 }
 
 static void one_bad_limits(void)
@@ -578,16 +575,38 @@ static void one_answers(void)
     }
 }
 
-/* The arm and pose without limits and in wide ones: 12 with an empty list, and else an answer of it. */
+/* The first answer is given where it is flagged and another is not, too. */
+static void one_flagged(void)
+{
+    /* An arm of family 4, close to a UR3e. */
+    static const double fourth[SAIHKEB_ARM] = {
+        0, 0, 1,       0, 1, 0, 0, 1, 0,       0, 1, 0,      0, 0, -1,             0, 1, 0,
+        0, 0, 0.15185, 0, 0, 0, 0.24355, 0, 0, 0.2132, 0, 0, 0, 0.13105, -0.08535, 0, 0, 0, 0, 0.0921, 0,
+    };
+    double at[SAIHKEB_POSE], made[SAIHKEB_ANGLES];
+    int before_unflagged = 0;
+    for (int place = 0; place < 40; place++) {
+        for (int i = 0; i < SAIHKEB_ANGLES; i++)
+            made[i] = 3 * sin(1 + place + 7 * i);
+        saihkeb_forward_kinematics(fourth, SAIHKEB_ARM, made, SAIHKEB_ANGLES, at, SAIHKEB_POSE);
+        solve(4, 0, fourth, at);
+        before_unflagged += flags[0] == 1 && memchr(flags, 0, counts[0]) != NULL;
+        check(solve_one(4, 0, fourth, SAIHKEB_ARM, at, SAIHKEB_POSE, NULL, 0) == 0 && is_first(),
+              "one: the first answer");
+    }
+    check(before_unflagged > 0, "one: a flagged answer before one without a flag");
+}
+
+/* The arm and pose without limits and in wide ones: 12 with an empty list, and else its first answer. */
 static void one_reach(uint64_t family, uint64_t n, const double *a, const double *p, int answers, const char *text)
 {
     double limits[SAIHKEB_LIMITS];
     make_wide(limits);
     check(solve(family, n, a, p) == 0 && (counts[0] > 0) == answers, text);
     check(solve_one(family, n, a, SAIHKEB_ARM, p, SAIHKEB_POSE, NULL, 0) == (answers ? 0 : 12), text);
-    check(answers ? member() : zeros(), text);
+    check(answers ? is_first() : zeros(), text);
     check(solve_one(family, n, a, SAIHKEB_ARM, p, SAIHKEB_POSE, limits, SAIHKEB_LIMITS) == (answers ? 0 : 12), text);
-    check(answers ? member() : zeros(), text);
+    check(answers ? is_first() : zeros(), text);
 }
 
 /* 12 where the limits leave no answer, and where there is none without limits. */
@@ -631,6 +650,7 @@ static void ones(void)
     one_bad_limits();
     one_refusals();
     one_answers();
+    one_flagged();
     one_empty();
 }
 

@@ -4,7 +4,7 @@
 ghost use Rattle.std.specs.Prelude.{◌≡◌};
 ghost use Rattle.full_list.specs.Task.{of_task};
 ghost use Rattle.full_list.specs.Listed.{listed};
-ghost use Rattle.one_answer.specs.OneAnswer.{one_of, Gives};
+ghost use Rattle.one_answer.specs.OneAnswer.{one_of, solve_one};
 ghost use Rattle.one_answer.specs.First.{first_allowed};
 
 use answers::Answer;
@@ -32,7 +32,7 @@ fn find_one(task: &Task, limits: Limits) -> Option<Answer>
     full_list::with_list(task, &mut |list| first_allowed(list, limits))
 }
 
-// Refusals 10, 4 to 8 and, where no answer is inside the limits, 12; else an answer. `family` and `n` are numbers,
+// Refusals 10, 4 to 8 and, where no answer is inside the limits, 12; else the first of the filtered list. `family` and `n` are numbers,
 // as a caller in C hands them over: refusals 4 and 7 are about them.
 pub fn solve_one(
     family: u64,
@@ -41,7 +41,7 @@ pub fn solve_one(
     pose: &[f64],
     limits: &[f64],
 ) -> Result<Answer, Refusal>
-    ensures { Gives family n arm.now pose.now limits.now (one_of result) }
+    ensures { one_of result ≡ solve_one family n arm.now pose.now limits.now }
 {
     let (task, limits) = solve::judged(family, n, arm, pose, limits)?;
     find_one(&task, limits).ok_or(Refusal::NoneAllowed)

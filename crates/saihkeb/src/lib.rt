@@ -19,9 +19,9 @@ ghost use Rattle.track.specs.Track.{track_answers, solve_track};
 ghost use Rattle.arms.specs.Arm.{numbered, put, find, take_out, compact};
 ghost use Rattle.arms.specs.File.{refusal, gives, after};
 ghost use Rattle.limits_block.specs.LimitsBlock.{limits_refusal, in_force};
-ghost use Rattle.one_answer.specs.OneAnswer.{one_of};
+ghost use Rattle.one_answer.specs.OneAnswer.{one_of, solve_one};
 ghost use Rattle.forward.specs.Forward.{forward_refusal, forward_pose};
-ghost use Rattle.saihkeb.specs.Library.{counts_of, Told};
+ghost use Rattle.saihkeb.specs.Library.{counts_of};
 
 use answers::Answer;
 use one_answer::answer_or_zeros;
@@ -103,7 +103,7 @@ fn tell(one: Result<Answer, Refusal>, angles: &mut [f64; 6], flag: &mut [u8; 1])
     number_of(one)
 }
 
-// One answer within the limits, or none. Which one is given is left open.
+// The first answer within the limits, or none.
 #[unsafe(no_mangle)]
 pub extern "C" fn saihkeb_solve_one_lent(
     family: u64,
@@ -114,7 +114,9 @@ pub extern "C" fn saihkeb_solve_one_lent(
     angles: &mut [f64; 6],
     flag: &mut [u8; 1],
 ) -> u64
-    ensures { Told family n arm.now pose.now limits.now result angles.old angles.new flag.old flag.new }
+    ensures result { result ≡ (solve_one family n arm.now pose.now limits.now).refusal }
+    ensures angles { angles.new ≡ sets angles.old 0 (six (solve_one family n arm.now pose.now limits.now).answer) }
+    ensures flag { flag.new ≡ sets flag.old 0 (byte (solve_one family n arm.now pose.now limits.now).answer ∷ []) }
 {
     tell(
         one_answer::solve_one(family, n, arm, pose, limits),
