@@ -92,13 +92,19 @@ pub extern "C" fn saihkeb_limits_block_lent(block: &[u8], limits: &mut [f64; 12]
 }
 
 // The answer of a one-answer call: its refusal as the result, its six angles and its flag.
+// (Number by number: after a copy of the whole the contract did not close, which speaks of each place.)
 fn tell(one: Result<Answer, Refusal>, angles: &mut [f64; 6], flag: &mut [u8; 1]) -> u64
     ensures result { result ≡ (one_of one).refusal }
     ensures angles { angles.new ≡ sets angles.old 0 (six (one_of one).answer) }
     ensures flag { flag.new ≡ sets flag.old 0 (byte (one_of one).answer ∷ []) }
 {
     let q = answer_or_zeros(one);
-    angles.copy_from_slice(&q.six());
+    angles[0] = q.q1;
+    angles[1] = q.q2;
+    angles[2] = q.q3;
+    angles[3] = q.q4;
+    angles[4] = q.q5;
+    angles[5] = q.q6;
     flag[0] = u8::from(q.is_ls);
     number_of(one)
 }
