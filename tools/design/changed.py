@@ -57,6 +57,16 @@ def tell(title, rows):
         print()
 
 
+def by_crate(olds, news):
+    """Those items of both trees whose texts differ."""
+    rows = collections.defaultdict(list)
+    for key, old in olds.items():
+        new = news.get(key)
+        if new and sorted(old) != sorted(new):
+            rows[key[0]].append((f"`{' '.join(key[1:])}`", " ".join(old), " ".join(new)))
+    return rows
+
+
 def main():
     old, new = contracts.read(sys.argv[1]), contracts.read(".")
     rows = collections.defaultdict(list)
@@ -65,19 +75,10 @@ def main():
             name = f"{a[2]}::{a[3]}" if a[2] else a[3]
             rows[a[0]].append((f"`{name}` ({a[1]})", said(x), said(y)))
     tell("Functions", rows)
-    rows = collections.defaultdict(list)
-    for key, x in old[3].items():
-        y = new[3].get(key)
-        if y and sorted(x) != sorted(y):
-            rows[key[0]].append((f"`{key[1]}`", " ".join(x), " ".join(y)))
-    tell("Definitions", rows)
-    rows = collections.defaultdict(list)
-    for key, x in old[2].items():
-        y = new[2].get(key)
-        if y and sorted(x) != sorted(y):
-            rows[key[0]].append((f"`{' '.join(key[1:])}`", " ".join(x), " ".join(y)))
-    if rows:
-        tell("Ghost items and constants", rows)
+    tell("Definitions", by_crate(old[3], new[3]))
+    ghosts = by_crate(old[2], new[2])
+    if ghosts:
+        tell("Ghost items and constants", ghosts)
 
 
 main()
