@@ -196,7 +196,7 @@
  *   18  the angles are not 6 numbers                                               forward kinematics
  *
  * MEMORY AND TIME
- *   A solve, for one answer too, takes up to 200 KB of stack, in every family: give the thread at least
+ *   A solve, for one answer too, takes up to 190 KB of stack, in every family: give the thread at least
  *   256 KB (many systems give a thread 128 KB or less, and an overflow is not caught here). A call on a file
  *   of arms takes less than 1 KB. Measured, not proved: tools/measure/memory.sh. No heap, no file, no global data: a call uses its arguments and the
  *   stack alone, so calls in several threads do not meet, each with lists of its own. Every call ends, on

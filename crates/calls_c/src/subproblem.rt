@@ -1,13 +1,14 @@
 // The subproblems, and the choice among subproblem 5's candidates.
 ghost use Rattle.std.specs.Prelude.{◌+◌, ◌≤◌};
 
-use crate::shapes::{Row, at, put_list, put_solved1, put_solved2};
+use crate::shapes::{Row, at, put, put_list, put_solved1, put_solved2};
 use arrayvec::ArrayVec;
+use float::SinCos;
 use linear::Vector3;
-use solutionset::Triple;
+use solutionset::{SolutionSet2, Triple};
 use subproblem5::reduced_solutionset as reduced;
 use subproblem6::subproblem6;
-use subproblems::{subproblem1, subproblem2, subproblem3, subproblem4};
+use subproblems::{Solved2, subproblem1, subproblem2, subproblem3, subproblem4};
 use subproblems_sc::{subproblem1_sc, subproblem3_sc, subproblem4_sc};
 
 fn vectors(args: &[f64; 40], i: usize) -> [Vector3; 4]
@@ -42,6 +43,28 @@ fn subproblem6_of(args: &[f64; 40], out: &mut [u64; 23]) {
     put_list(out, &set.get_all());
 }
 
+// A set of sines and cosines: its count and its values. (Other lists put zeros to a slot that is not used;
+// here it keeps its words.)
+fn put_sin_cos_set(out: &mut [u64; 23], set: SolutionSet2<SinCos>) {
+    match set {
+        SolutionSet2::Zero => {}
+        SolutionSet2::One(p) => {
+            out[0] = 1;
+            put(out, 1, p);
+        }
+        SolutionSet2::Two(p, q) => {
+            out[0] = 2;
+            put(out, 1, p);
+            put(out, 3, q);
+        }
+    }
+}
+
+fn put_solved_sin_cos(out: &mut [u64; 23], s: Solved2<SinCos>) {
+    put_sin_cos_set(out, s.set);
+    out[5] = u64::from(s.is_ls);
+}
+
 pub(crate) fn subproblem(id: u64, args: &[f64; 40], out: &mut [u64; 23]) {
     let a = at(args, 0);
     let b = at(args, 3);
@@ -63,14 +86,8 @@ pub(crate) fn subproblem(id: u64, args: &[f64; 40], out: &mut [u64; 23]) {
         5 => subproblem5(args, out),
         6 => subproblem6_of(args, out),
         7 => put_solved1(out, subproblem1_sc(a, b, c)),
-        8 => {
-            let s = subproblem3_sc(a, b, c, args[9]);
-            put_solved2(out, &s.set.get_all(), s.is_ls);
-        }
-        9 => {
-            let s = subproblem4_sc(a, b, c, args[9]);
-            put_solved2(out, &s.set.get_all(), s.is_ls);
-        }
+        8 => put_solved_sin_cos(out, subproblem3_sc(a, b, c, args[9])),
+        9 => put_solved_sin_cos(out, subproblem4_sc(a, b, c, args[9])),
         _ => {}
     }
 }

@@ -61,8 +61,9 @@ pub fn finish(
 {
     let sixes = angles.len() / 6;
     let bytes = flags.len();
+    let task = Task::new(Family::TwoParallel, 0, arm, pose);
     let list = Pairs {
-        task: Task::new(Family::TwoParallel, 0, arm, pose),
+        task: &task,
         angles: &qs[..pairs],
         components: &cs[..pairs],
         evals,

@@ -37,7 +37,7 @@ pub fn report<O: Print>(out: &O, tally: &Tally, first: usize, names: &[&str]) ->
     requires { first + length names.now ≤ 30 }
 {
     for (i, name) in names.iter().enumerate() {
-        line(out, name, tally, first + i)?;
+        line(out, name.as_bytes(), tally, first + i)?;
     }
     end(out, tally)
 }

@@ -99,19 +99,20 @@ pub fn next<I: Read>(input: &mut I, bytes: &mut [u8], tally: &mut Tally) -> bool
     false
 }
 
-// Writes the line of an entry.
-pub fn line<O: Print>(out: &O, name: &str, tally: &Tally, entry: usize) -> io::Result<()>
+// Writes the line of an entry: NAME cases C mismatches M. (A name is any bytes, and is written by itself.)
+pub fn line<O: Print>(out: &O, name: &[u8], tally: &Tally, entry: usize) -> io::Result<()>
     requires { entry < 32 }
 {
+    out.write_all(name)?;
     let cases = tally[entry].cases;
     let mismatches = tally[entry].mismatches;
-    println!(out; "{name} cases {cases} mismatches {mismatches}")
+    println!(out; " cases {cases} mismatches {mismatches}")
 }
 
 // Writes the last lines: what was no case of a function, if anything, and the total.
 pub fn end<O: Print>(out: &O, tally: &Tally) -> io::Result<()> {
     if tally[UNKNOWN].cases > 0 {
-        line(out, "unknown", tally, UNKNOWN)?;
+        line(out, b"unknown", tally, UNKNOWN)?;
     }
-    line(out, "total", tally, TOTAL)
+    line(out, b"total", tally, TOTAL)
 }

@@ -9,6 +9,7 @@ use borrow.Author.Tests.{ne_eqb}
 use lib.Dec.{eqb}
 use lib.Ieee.{Float, nan}
 use lib.ListN.{length, get_or, length-map}
+use denote.Bor.{Bor}
 use Rattle.std.proofs.lemmas.List.{take_all}
 use Rattle.arrayvec.specs.ArrayVec.{ArrayVec}
 use Rattle.answers.specs.declared.Answer.{Answer}
@@ -98,7 +99,7 @@ not-six TwoParallel h = λ e. h refl
 
 -- a task whose family does not search
 module _ (t : Task) where
-  pub of_found : (t.family ≡ TwoParallel → ⊥) → {found : ArrayVec Answer} → found.items ≡ (of_task t).answers → ListOf t (Found found)
+  pub of_found : (t.family ≡ TwoParallel → ⊥) → {found : Bor (ArrayVec Answer)} → found.now.items ≡ (of_task t).answers → ListOf t (Found found)
   of_found other all =
       let e = closed (family_number t.family) t.n t.r_06 t.p_0t t.kin tolerance (not-six t.family other) in
       record { all = all; counted = sym (ap (λ (x : Full). x.evals) e) }

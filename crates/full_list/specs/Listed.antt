@@ -13,11 +13,11 @@ use Rattle.full_list.specs.declared.list.FullList.TheVariants.{Found, Searched}
 
 -- the answers of the search's pairs
 abbrev pub of_pairs : Pairs → List Answer
-of_pairs pairs = map (answer_of pairs.task.r_06 pairs.task.p_0t pairs.task.kin tolerance) (zipped pairs.angles.now pairs.components.now)
+of_pairs pairs = map (answer_of pairs.task.now.r_06 pairs.task.now.p_0t pairs.task.now.kin tolerance) (zipped pairs.angles.now pairs.components.now)
 
 -- the answers that a list keeps
 abbrev pub listed : FullList → List Answer
-listed (Found found) = found.items
+listed (Found found) = found.now.items
 listed (Searched pairs) = of_pairs pairs
 
 -- how often the search's error was evaluated for it

@@ -15,14 +15,14 @@ use limits::Limits;
 use refusals::Family;
 
 // The answers of families 1 to 5, or the pairs that family 6 found.
-#[derive(Drop)]
+#[derive(Clone, Copy)]
 pub enum FullList<'a> {
-    Found(ArrayVec<Answer, 8>),
+    Found(&'a ArrayVec<Answer, 8>),
     Searched(Pairs<'a>),
 }
 
 // Family 6, by a search over n + 1 samples.
-pub fn search<'a>(task: &Task, list: &'a mut PairList<17600>) -> Pairs<'a>
+pub fn search<'a>(task: &'a Task, list: &'a mut PairList<17600>) -> Pairs<'a>
     ensures all { of_pairs result ≡ (for_search task.now).answers }
     ensures counted { result.evals ≡ (for_search task.now).evals }
 {
@@ -30,7 +30,7 @@ pub fn search<'a>(task: &Task, list: &'a mut PairList<17600>) -> Pairs<'a>
     let count = list.pairs;
     let evals = list.evals;
     Pairs {
-        task: *task,
+        task,
         angles: &list.angles[..count],
         components: &list.components[..count],
         evals,
@@ -48,7 +48,7 @@ pub fn with_list<R, F: FnMut(&FullList) -> R>(task: &Task, f: &mut F) -> R
             let mut pairs = PairList::new();
             f(&FullList::Searched(search(task, &mut pairs)))
         }
-        _ => f(&FullList::Found(without_search(task))),
+        _ => f(&FullList::Found(&without_search(task))),
     }
 }
 
@@ -85,8 +85,8 @@ impl FullList<'_> {
         }
     }
 
-    // Writes the answers that are inside the limits, where they fit both lists, and counts them.
-    pub fn write_allowed(&self, limits: Limits, angles: &mut [f64], flags: &mut [u8]) -> usize
+    // Writes the answers that are inside the limits, one by one.
+    fn write_inside(&self, limits: Limits, angles: &mut [f64], flags: &mut [u8]) -> usize
         ensures { Wrote (allowed limits.entry.stops.now (listed self.now)) angles.old flags.old angles.new flags.new result }
     {
         let mut count = 0;
@@ -97,5 +97,18 @@ impl FullList<'_> {
             count += limits.put(q, &mut angles[at..], &mut flags[on..]);
         }
         count
+    }
+
+    // Writes the answers that are inside the limits, where they fit both lists, and counts them. Without
+    // limits every answer stays, so that none that was found needs to be looked at again.
+    pub fn write_allowed(&self, limits: Limits, angles: &mut [f64], flags: &mut [u8]) -> usize
+        ensures { Wrote (allowed limits.entry.stops.now (listed self.now)) angles.old flags.old angles.new flags.new result }
+    {
+        match self {
+            FullList::Found(found) if limits.stops.is_empty() => {
+                answers::write(found.as_slice(), angles, flags)
+            }
+            _ => self.write_inside(limits, angles, flags),
+        }
     }
 }

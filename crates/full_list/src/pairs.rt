@@ -8,14 +8,14 @@ use answers::Answer;
 // The angles and the components of the pairs of a task, and how often the search's error was evaluated.
 #[derive(Clone, Copy)]
 pub struct Pairs<'a> {
-    pub task: Task,
+    pub task: &'a Task,
     pub angles: &'a [f64],
     pub components: &'a [u8],
     pub evals: u64,
     pub ghost as_many: { length components.now ≡ length angles.now },
     // 44 * 400, the most that there are
     pub ghost few: { length angles.now ≤ 17600 },
-    pub ghost usable: { Usable task.r_06 task.p_0t task.kin (length angles.now) angles.now components.now },
+    pub ghost usable: { Usable task.now.r_06 task.now.p_0t task.now.kin (length angles.now) angles.now components.now },
 }
 
 impl Pairs<'_> {

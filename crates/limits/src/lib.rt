@@ -1,9 +1,11 @@
 // Joint limits: twelve numbers, low then high, joint by joint, or none.
 #![tactic(auto)]
 
-ghost use Rattle.std.specs.Prelude.{◌≡◌, length};
+ghost use Rattle.std.specs.Prelude.{◌≡◌, ◌*◌, ◌≤◌, length};
+ghost use Rattle.answers.specs.Held.{held};
+ghost use Rattle.answers.specs.Written.{Wrote};
 ghost use Rattle.refusals.specs.Refusal.{number_of};
-ghost use Rattle.limits.specs.Limits.{between, TwelveOrNone, stops_fit, fit, refusal_10};
+ghost use Rattle.limits.specs.Limits.{between, TwelveOrNone, stops_fit, fit, refusal_10, allowed};
 
 use answers::Answer;
 use refusals::Refusal;
@@ -51,8 +53,7 @@ pub struct Limits<'a> {
 
 impl<'a> Limits<'a> {
     ghost use Rattle.std.specs.Prelude.{IfOk, ◌∷◌, []};
-    ghost use Rattle.answers.specs.Written.{Wrote};
-    ghost use Rattle.limits.specs.Limits.{inside, allowed};
+    ghost use Rattle.limits.specs.Limits.{inside};
 
     // The limits that are lent, or refusal 10.
     #[tactic(auto, using(crate::proofs::Laws::twelve_or_none, refusals::proofs::Outcomes::passed_on))]
@@ -97,4 +98,27 @@ impl<'a> Limits<'a> {
             0
         }
     }
+}
+
+// Writes those of the first n answers of two lists that are inside the limits, and counts them.
+pub fn write_allowed(
+    n: usize,
+    numbers: &[f64],
+    bytes: &[u8],
+    limits: &[f64],
+    angles: &mut [f64],
+    flags: &mut [u8],
+) -> usize
+    requires { (n ≤ 17600) × (6 * n ≤ length numbers.now) × (n ≤ length bytes.now) × TwelveOrNone limits.now }
+    ensures { Wrote (allowed limits.now (held n numbers.now bytes.now)) angles.old flags.old angles.new flags.new result }
+{
+    let stops = Limits { stops: limits };
+    let mut count = 0;
+    for k in 0..n {
+        let q = answers::read(numbers, bytes, k);
+        let at = answers::rest(6 * count, angles.len());
+        let on = answers::rest(count, flags.len());
+        count += stops.put(q, &mut angles[at..], &mut flags[on..]);
+    }
+    count
 }

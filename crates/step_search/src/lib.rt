@@ -1,8 +1,9 @@
 // The whole search in steps of one evaluation each: the grid's samples, then the four components. A phase is
-// plain data by value; the samples, an edge's row and the pairs lie in lists that the caller lends.
+// plain data by value; the samples, an edge's row and the pairs lie in lists that the caller lends: room for S
+// samples, where n + 1 are taken, and for N pairs.
 #![tactic(auto)]
 
-ghost use Rattle.std.specs.Prelude.{◌≡◌, List, ℕ, ◌<◌, ◌≤◌, length};
+ghost use Rattle.std.specs.Prelude.{◌≡◌, List, ℕ, ◌<◌, ◌≤◌, ◌^◌, length};
 ghost use Rattle.std.specs.Option.{option_map};
 ghost use Rattle.search_error.specs.Fixed.{error_at};
 ghost use Rattle.search_steps.specs.Steps as Steps;
@@ -32,8 +33,8 @@ pub enum SearchPhase {
 }
 
 // Nothing is taken and nothing found yet.
-pub fn start<const N: usize>(
-    samples: &mut ArrayVec<Sample, 401>,
+pub fn start<const S: usize, const N: usize>(
+    samples: &mut ArrayVec<Sample, S>,
     found: &mut ArrayVec<Found, N>,
 ) -> SearchPhase
     ensures { (n : ℕ) (r : List DeclaredPoint.Point) → Holds n N (Steps.start n) result (memory samples.new.items r found.new.items) }
@@ -53,12 +54,13 @@ pub fn over(phase: SearchPhase) -> bool
 }
 
 // The angle that a phase asks.
-pub fn asked_angle(
+pub fn asked_angle<const S: usize>(
     n: u32,
     phase: SearchPhase,
-    samples: &ArrayVec<Sample, 401>,
+    samples: &ArrayVec<Sample, S>,
     row: &ArrayVec<Point, 9>,
 ) -> f64
+    requires { S < 2 ^ 32 }
     ensures { result ≡ angle_in n (samples_of samples.now.items) (phase_of n samples.now.items row.now.items phase) }
 {
     match phase {
@@ -81,13 +83,13 @@ pub fn arrived(r: Option<Place>) -> SearchPhase
 // What the search comes to from the sample that it asks, where e are the error's values. The last sample's step
 // goes on to the first evaluation in a component. That n is at most 400 is no type's, since it is about the room
 // of `samples`, a list that the caller lends: a type for n alone would say it of no list.
-pub fn sample_next<const N: usize>(
+pub fn sample_next<const S: usize, const N: usize>(
     n: u32,
     e: [f64; 4],
-    samples: &mut ArrayVec<Sample, 401>,
+    samples: &mut ArrayVec<Sample, S>,
     found: &mut ArrayVec<Found, N>,
 ) -> SearchPhase
-    requires { (length samples.old.items ≤ n) × (n ≤ 400) }
+    requires { (length samples.old.items ≤ n) × (n ≤ 400) × (n < S) }
     ensures { (r : List DeclaredPoint.Point) → StepsTo n N e SearchPhase.Sampling (memory samples.old.items r found.old.items) result (memory samples.new.items r found.new.items) }
 {
     let k = samples.len();
@@ -100,11 +102,11 @@ pub fn sample_next<const N: usize>(
 }
 
 // What the search comes to in a component, where e are the error's values at the angle that it asks.
-pub fn component_next<const N: usize>(
+pub fn component_next<const S: usize, const N: usize>(
     n: u32,
     p: Place,
     e: [f64; 4],
-    samples: &ArrayVec<Sample, 401>,
+    samples: &ArrayVec<Sample, S>,
     row: &mut ArrayVec<Point, 9>,
     found: &mut ArrayVec<Found, N>,
 ) -> SearchPhase
@@ -117,15 +119,15 @@ pub fn component_next<const N: usize>(
 
 // What a phase comes to, where e are the error's values at the angle that it asks. What is kept of its numbers is
 // no ghost field, since it speaks of the lists too, which the caller lends.
-pub fn next<const N: usize>(
+pub fn next<const S: usize, const N: usize>(
     n: u32,
     phase: SearchPhase,
     e: [f64; 4],
-    samples: &mut ArrayVec<Sample, 401>,
+    samples: &mut ArrayVec<Sample, S>,
     row: &mut ArrayVec<Point, 9>,
     found: &mut ArrayVec<Found, N>,
 ) -> SearchPhase
-    requires { (n ≤ 400) × PhaseKept n (phase_of n samples.old.items row.old.items phase) }
+    requires { (n ≤ 400) × (n < S) × PhaseKept n (phase_of n samples.old.items row.old.items phase) }
     ensures { StepsTo n N e phase (memory samples.old.items row.old.items found.old.items) result (memory samples.new.items row.new.items found.new.items) }
 {
     match phase {
@@ -136,15 +138,15 @@ pub fn next<const N: usize>(
 }
 
 // One step: one evaluation of the error, at the angle that the phase asks.
-pub fn step<const N: usize>(
+pub fn step<const S: usize, const N: usize>(
     fixed: Fixed,
     n: u32,
     phase: SearchPhase,
-    samples: &mut ArrayVec<Sample, 401>,
+    samples: &mut ArrayVec<Sample, S>,
     row: &mut ArrayVec<Point, 9>,
     found: &mut ArrayVec<Found, N>,
 ) -> SearchPhase
-    requires { (n ≤ 400) × PhaseKept n (phase_of n samples.old.items row.old.items phase) }
+    requires { (n ≤ 400) × (n < S) × (S < 2 ^ 32) × PhaseKept n (phase_of n samples.old.items row.old.items phase) }
     ensures { (s : State) → Holds n N s phase (memory samples.old.items row.old.items found.old.items) → Holds n N (Run.step (error_at fixed) n s) result (memory samples.new.items row.new.items found.new.items) }
 {
     let x = asked_angle(n, phase, samples, row);

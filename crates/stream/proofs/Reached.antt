@@ -13,7 +13,7 @@ use Rattle.stream.specs.Calls.{Call, after, reads, writes, all_read, all_written
 use Rattle.stream.specs.Progress.{standing, Turned}
 use Rattle.stream.specs.declared.progress.Ask.{Ask}
 use Rattle.stream.specs.declared.progress.Ask.TheVariants.{Stop}
-use Rattle.stream.specs.declared.progress.Progress.{Progress}
+use Rattle.stream.specs.declared.progress.Run.{Run}
 use Rattle.stream.proofs.Right.{after_one, fitting_one, right}
 
 -- one call more
@@ -42,18 +42,18 @@ ended_reads s c e = rw e (none s.failed (some s.pending))
     none false false = refl
 
 -- n calls were made, each a place at most further on
-pub record Reached (p : Progress) (n : ℕ) (left₀ left held₀ held : Option (List ℕ)) : Type 0 where
+pub record Reached (p : Run) (n : ℕ) (left₀ left held₀ held : Option (List ℕ)) : Type 0 where
   pub calls : List Call
   pub counted : length calls ≡ n
-  pub places : p.place ≤ n
+  pub places : p.at.place ≤ n
   pub fitting : Fitting start calls
   pub came : after start calls ≡ standing p
   pub consumed : Consumes left₀ left (all_read start calls)
   pub appended : Appends held₀ held (all_written start calls)
-  pub all_of_it : p.ended ≡ true → IfSome left₀ (λ input. all_read start calls ≡ input)
+  pub all_of_it : p.at.ended ≡ true → IfSome left₀ (λ input. all_read start calls ≡ input)
 
 module _ (left₀ held₀ : Option (List ℕ)) where
-  pub none_made : (p : Progress) → standing p ≡ start → Reached p 0 left₀ left₀ held₀ held₀
+  pub none_made : (p : Run) → standing p ≡ start → Reached p 0 left₀ left₀ held₀ held₀
   unfolding after Fitting all_read all_written
   none_made p stands =
       record {
@@ -67,8 +67,8 @@ module _ (left₀ held₀ : Option (List ℕ)) where
         all_of_it = λ is. absurd (true≢false (sym is ∙ ap (λ (s : Standing). s.ended) stands));
       }
 
-  module _ (p : Progress) (n : ℕ) (left held : Option (List ℕ)) (r : Reached p n left₀ left held₀ held) where
-    module _ (q : Progress) (left' held' : Option (List ℕ)) (t : Turned p q left left' held held') where
+  module _ (p : Run) (n : ℕ) (left held : Option (List ℕ)) (r : Reached p n left₀ left held₀ held) where
+    module _ (q : Run) (left' held' : Option (List ℕ)) (t : Turned p q left left' held held') where
       abbrev call : Call
       call = record { gave = t.gave; behind = t.behind }
 
@@ -82,7 +82,7 @@ module _ (left₀ held₀ : Option (List ℕ)) where
           let m = t.moved in
           rw (written_one start r.calls call, r.came) (Appends-trans held₀ held held' _ _ r.appended m.appended)
 
-      all_there : (ended : Bool) → p.ended ≡ ended → q.ended ≡ true → IfSome left₀ (λ input. all_read start (r.calls ++ (call ∷ [])) ≡ input)
+      all_there : (ended : Bool) → p.at.ended ≡ ended → q.at.ended ≡ true → IfSome left₀ (λ input. all_read start (r.calls ++ (call ∷ [])) ≡ input)
       all_there true e is =
           let same : all_read start (r.calls ++ (call ∷ [])) ≡ all_read start r.calls =
           read_one start r.calls call ∙ ap (λ (s : Standing). all_read start r.calls ++ reads s call) r.came
@@ -106,7 +106,7 @@ module _ (left₀ held₀ : Option (List ℕ)) where
             came = rw (after_one start r.calls call, r.came) (sym went.stands);
             consumed = all_consumed;
             appended = all_appended;
-            all_of_it = all_there p.ended refl;
+            all_of_it = all_there p.at.ended refl;
           }
 
     pub served_out : 2 ^ 64 - 2 ≤ n → Served (standing p) (2 ^ 64 - 2)

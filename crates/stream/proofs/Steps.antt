@@ -20,66 +20,66 @@ use Rattle.stream.specs.Standing.{Standing, numbers, some, broken, delivered, fu
 use Rattle.stream.specs.Progress.{standing, Went, Turned}
 use Rattle.stream.specs.declared.progress.Ask.{Ask}
 use Rattle.stream.specs.declared.progress.Ask.TheVariants.{Write, Read, Stop}
-use Rattle.stream.specs.declared.progress.Progress.{Progress}
+use Rattle.stream.specs.declared.progress.Run.{Run}
 
 next_at_most : (place : ℕ) (accept : Bool) → cond accept place (place + 1) ≤ place + 1
 next_at_most place true = omega arith
 next_at_most place false = omega arith
 
 -- `q` is the program after a step
-module _ (p q : Progress) (long : length p.block ≡ 512) where
-  begun_long : length (take p.filled p.block) ≡ p.filled
-  begun_long = let r = p.room_left in rw (length-take p.filled p.block) (omega (arith, long, r))
+module _ (p q : Run) (long : length p.block ≡ 512) where
+  begun_long : length (take p.at.filled p.block) ≡ p.at.filled
+  begun_long = let r = p.room_left in rw (length-take p.at.filled p.block) (omega (arith, long, r))
 
   -- the input ends
-  pub closes_none : p.filled ≡ 0 → q.place ≡ p.place → q.filled ≡ 0 → q.limits ≡ p.limits → q.lines.out.items ≡ [] → q.ended ≡ true → q.failed ≡ p.failed
-      → Went (closed (standing p)) q p.place
+  pub closes_none : p.at.filled ≡ 0 → q.at.place ≡ p.at.place → q.at.filled ≡ 0 → q.limits ≡ p.limits → q.lines.out.items ≡ [] → q.at.ended ≡ true → q.at.failed ≡ p.at.failed
+      → Went (closed (standing p)) q p.at.place
   unfolding closed
   closes_none h e-p e-f e-l empty e-e e-b =
       record {
-        stands = rw (eq-eqb (length (take p.filled p.block)) 0 (begun_long ∙ h), e-p, e-f, e-l, empty, e-e, e-b, drop-nil) refl;
+        stands = rw (eq-eqb (length (take p.at.filled p.block)) 0 (begun_long ∙ h), e-p, e-f, e-l, empty, e-e, e-b, drop-nil) refl;
         places = omega (arith, e-p);
       }
 
-  pub closes_short : {l : List Float} → l ≡ numbers p.limits → (p.filled ≡ 0 → ⊥) → q.place ≡ p.place → q.filled ≡ 0 → q.written ≡ 0 → q.limits ≡ p.limits
-      → q.lines.out.items ≡ lines (take p.filled p.block) p.place l → q.ended ≡ true → q.failed ≡ p.failed
-      → Went (closed (standing p)) q p.place
+  pub closes_short : {l : List Float} → l ≡ numbers p.limits → (p.at.filled ≡ 0 → ⊥) → q.at.place ≡ p.at.place → q.at.filled ≡ 0 → q.at.written ≡ 0 → q.limits ≡ p.limits
+      → q.lines.out.items ≡ lines (take p.at.filled p.block) p.at.place l → q.at.ended ≡ true → q.at.failed ≡ p.at.failed
+      → Went (closed (standing p)) q p.at.place
   unfolding closed
   closes_short held h e-p e-f e-w e-l printed e-e e-b =
       record {
-        stands = rw (ne_eqb (length (take p.filled p.block)) 0 (λ z. h (sym begun_long ∙ z)), e-p, e-f, e-w, e-l, printed, e-e, e-b, held) refl;
+        stands = rw (ne_eqb (length (take p.at.filled p.block)) 0 (λ z. h (sym begun_long ∙ z)), e-p, e-f, e-w, e-l, printed, e-e, e-b, held) refl;
         places = omega (arith, e-p);
       }
 
   -- the block is full
-  pub filled_up : {l : List Float} {accept : Bool} → l ≡ numbers p.limits → q.lines.out.items ≡ lines p.block p.place l → accept ≡ accepted p.block
-      → numbers q.limits ≡ in_force p.block (numbers p.limits) → q.place ≡ cond accept p.place (p.place + 1) → q.filled ≡ 0 → q.written ≡ 0 → q.ended ≡ p.ended → q.failed ≡ p.failed
-      → Went (full (standing p) p.block) q p.place
+  pub filled_up : {l : List Float} {accept : Bool} → l ≡ numbers p.limits → q.lines.out.items ≡ lines p.block p.at.place l → accept ≡ accepted p.block
+      → numbers q.limits ≡ in_force p.block (numbers p.limits) → q.at.place ≡ cond accept p.at.place (p.at.place + 1) → q.at.filled ≡ 0 → q.at.written ≡ 0 → q.at.ended ≡ p.at.ended → q.at.failed ≡ p.at.failed
+      → Went (full (standing p) p.block) q p.at.place
   unfolding full place_after
   filled_up {accept = accept} held printed e-a e-l e-p e-f e-w e-e e-b =
       record {
         stands = rw (e-p, e-f, e-w, e-l, e-e, e-b, e-a, printed, held) refl;
-        places = rw e-p (next_at_most p.place accept);
+        places = rw e-p (next_at_most p.at.place accept);
       }
 
   -- n bytes more do not fill the block
-  pub begins : (n : ℕ) → p.filled + n ≤ 512 → (p.filled + n ≡ 512 → ⊥) → q.place ≡ p.place → q.block ≡ p.block → q.filled ≡ p.filled + n → q.limits ≡ p.limits → q.lines.out.items ≡ []
-      → q.ended ≡ p.ended → q.failed ≡ p.failed
-      → Went (received (standing p) (take n (drop p.filled p.block))) q p.place
+  pub begins : (n : ℕ) → p.at.filled + n ≤ 512 → (p.at.filled + n ≡ 512 → ⊥) → q.at.place ≡ p.at.place → q.block ≡ p.block → q.at.filled ≡ p.at.filled + n → q.limits ≡ p.limits → q.lines.out.items ≡ []
+      → q.at.ended ≡ p.at.ended → q.at.failed ≡ p.at.failed
+      → Went (received (standing p) (take n (drop p.at.filled p.block))) q p.at.place
   unfolding received
   begins n all h e-p e-k e-f e-l empty e-e e-b =
-      let more : take p.filled p.block ++ take n (drop p.filled p.block) ≡ take (p.filled + n) p.block = sym (take-add p.filled n p.block) in
-      let so_long : length (take (p.filled + n) p.block) ≡ p.filled + n = rw (length-take (p.filled + n) p.block) (omega (arith, long)) in
+      let more : take p.at.filled p.block ++ take n (drop p.at.filled p.block) ≡ take (p.at.filled + n) p.block = sym (take-add p.at.filled n p.block) in
+      let so_long : length (take (p.at.filled + n) p.block) ≡ p.at.filled + n = rw (length-take (p.at.filled + n) p.block) (omega (arith, long)) in
       record {
-        stands = rw (more, ne_eqb (length (take (p.filled + n) p.block)) 512 (λ z. h (sym so_long ∙ z)), e-p, e-k, e-f, e-l, empty, e-e, e-b, drop-nil) refl;
+        stands = rw (more, ne_eqb (length (take (p.at.filled + n) p.block)) 512 (λ z. h (sym so_long ∙ z)), e-p, e-k, e-f, e-l, empty, e-e, e-b, drop-nil) refl;
         places = omega (arith, e-p);
       }
 
   -- they do
-  pub fills : (n : ℕ) → p.filled + n ≡ 512 → Went (full (standing p) p.block) q p.place → Went (received (standing p) (take n (drop p.filled p.block))) q p.place
+  pub fills : (n : ℕ) → p.at.filled + n ≡ 512 → Went (full (standing p) p.block) q p.at.place → Went (received (standing p) (take n (drop p.at.filled p.block))) q p.at.place
   unfolding received
   fills n h went =
-      let whole : take p.filled p.block ++ take n (drop p.filled p.block) ≡ p.block = sym (take-add p.filled n p.block) ∙ take_all (p.filled + n) p.block (omega (arith, long)) in
+      let whole : take p.at.filled p.block ++ take n (drop p.at.filled p.block) ≡ p.block = sym (take-add p.at.filled n p.block) ∙ take_all (p.at.filled + n) p.block (omega (arith, long)) in
       rw (whole, eq-eqb (length p.block) 512 long) went
 
 some_of : (l : List ℕ) → 0 < length l → some l ≡ true
@@ -90,74 +90,74 @@ none_of : (l : List ℕ) → length l ≤ 0 → some l ≡ false
 none_of [] h = refl
 none_of (x ∷ l) h = absurd (omega arith)
 
-module _ (p q : Progress) where
+module _ (p q : Run) where
   -- after a call that failed
-  pub failed_on : q.place ≡ p.place → q.block ≡ p.block → q.filled ≡ p.filled → q.limits ≡ p.limits → q.lines ≡ p.lines → q.written ≡ p.written → q.ended ≡ p.ended → q.failed ≡ true
-      → Went (broken (standing p)) q p.place
+  pub failed_on : q.at.place ≡ p.at.place → q.block ≡ p.block → q.at.filled ≡ p.at.filled → q.limits ≡ p.limits → q.lines ≡ p.lines → q.at.written ≡ p.at.written → q.at.ended ≡ p.at.ended → q.at.failed ≡ true
+      → Went (broken (standing p)) q p.at.place
   unfolding broken
   failed_on e-p e-k e-f e-l e-o e-w e-e e-b = record { stands = rw (e-p, e-k, e-f, e-l, e-o, e-w, e-e, e-b) refl; places = omega (arith, e-p) }
 
   module _ (gave : Option ℕ) {took : ℕ} (e : took ≡ count gave) where
     -- after a write
-    pub writes_none : took ≡ 0 → q.place ≡ p.place → q.block ≡ p.block → q.filled ≡ p.filled → q.limits ≡ p.limits → q.lines ≡ p.lines → q.written ≡ p.written → q.ended ≡ p.ended → q.failed ≡ true
-        → Went (after_write (standing p) gave) q p.place
+    pub writes_none : took ≡ 0 → q.at.place ≡ p.at.place → q.block ≡ p.block → q.at.filled ≡ p.at.filled → q.limits ≡ p.limits → q.lines ≡ p.lines → q.at.written ≡ p.at.written → q.at.ended ≡ p.at.ended → q.at.failed ≡ true
+        → Went (after_write (standing p) gave) q p.at.place
     unfolding after_write delivered
     writes_none z e-p e-k e-f e-l e-o e-w e-e e-b = by_gave gave (sym e ∙ z)
       where
-        by_gave : (g : Option ℕ) → count g ≡ 0 → Went (after_write (standing p) g) q p.place
+        by_gave : (g : Option ℕ) → count g ≡ 0 → Went (after_write (standing p) g) q p.at.place
         by_gave (Some n) z = rw (eq-eqb n 0 z) (failed_on e-p e-k e-f e-l e-o e-w e-e e-b)
         by_gave None z = failed_on e-p e-k e-f e-l e-o e-w e-e e-b
 
-    pub writes_some : (took ≡ 0 → ⊥) → q.place ≡ p.place → q.block ≡ p.block → q.filled ≡ p.filled → q.limits ≡ p.limits → q.lines ≡ p.lines → q.written ≡ p.written + took
-        → q.ended ≡ p.ended → q.failed ≡ p.failed → Went (after_write (standing p) gave) q p.place
+    pub writes_some : (took ≡ 0 → ⊥) → q.at.place ≡ p.at.place → q.block ≡ p.block → q.at.filled ≡ p.at.filled → q.limits ≡ p.limits → q.lines ≡ p.lines → q.at.written ≡ p.at.written + took
+        → q.at.ended ≡ p.at.ended → q.at.failed ≡ p.at.failed → Went (after_write (standing p) gave) q p.at.place
     unfolding after_write delivered
-    writes_some h e-p e-k e-f e-l e-o e-w e-e e-b = by_gave gave (λ z. h (e ∙ z)) (e-w ∙ ap (λ (n : ℕ). p.written + n) e)
+    writes_some h e-p e-k e-f e-l e-o e-w e-e e-b = by_gave gave (λ z. h (e ∙ z)) (e-w ∙ ap (λ (n : ℕ). p.at.written + n) e)
       where
-        by_gave : (g : Option ℕ) → (count g ≡ 0 → ⊥) → q.written ≡ p.written + count g → Went (after_write (standing p) g) q p.place
+        by_gave : (g : Option ℕ) → (count g ≡ 0 → ⊥) → q.at.written ≡ p.at.written + count g → Went (after_write (standing p) g) q p.at.place
         by_gave (Some n) h f =
             record {
-              stands = rw (ne_eqb n 0 h, e-p, e-k, e-f, e-l, e-o, f, e-e, e-b, drop-drop n p.written p.lines.out.items) refl;
+              stands = rw (ne_eqb n 0 h, e-p, e-k, e-f, e-l, e-o, f, e-e, e-b, drop-drop n p.at.written p.lines.out.items) refl;
               places = omega (arith, e-p);
             }
         by_gave None h f = absurd (h refl)
 
   -- after a read
   module _ {gave : Option ℕ} where
-    pub reads_fail : gave ≡ None → q.place ≡ p.place → q.block ≡ p.block → q.filled ≡ p.filled → q.limits ≡ p.limits → q.lines ≡ p.lines → q.written ≡ p.written → q.ended ≡ p.ended → q.failed ≡ true
-        → Went (after_read (standing p) gave (drop p.filled p.block)) q p.place
+    pub reads_fail : gave ≡ None → q.at.place ≡ p.at.place → q.block ≡ p.block → q.at.filled ≡ p.at.filled → q.limits ≡ p.limits → q.lines ≡ p.lines → q.at.written ≡ p.at.written → q.at.ended ≡ p.at.ended → q.at.failed ≡ true
+        → Went (after_read (standing p) gave (drop p.at.filled p.block)) q p.at.place
     unfolding after_read
     reads_fail e e-p e-k e-f e-l e-o e-w e-e e-b = rw e (failed_on e-p e-k e-f e-l e-o e-w e-e e-b)
 
     module _ {n : ℕ} (e : gave ≡ Some n) where
-      pub reads_none : n ≡ 0 → Went (closed (standing p)) q p.place → Went (after_read (standing p) gave (drop p.filled p.block)) q p.place
+      pub reads_none : n ≡ 0 → Went (closed (standing p)) q p.at.place → Went (after_read (standing p) gave (drop p.at.filled p.block)) q p.at.place
       unfolding after_read
       reads_none h went = rw (e, eq-eqb n 0 h) went
 
-      pub reads_some : (n ≡ 0 → ⊥) → Went (received (standing p) (take n (drop p.filled p.block))) q p.place
-          → Went (after_read (standing p) gave (drop p.filled p.block)) q p.place
+      pub reads_some : (n ≡ 0 → ⊥) → Went (received (standing p) (take n (drop p.at.filled p.block))) q p.at.place
+          → Went (after_read (standing p) gave (drop p.at.filled p.block)) q p.at.place
       unfolding after_read
       reads_some h went = rw (e, ne_eqb n 0 h) went
 
 -- `next`
-module _ (p : Progress) where
-  pub asks_none : p.failed ≡ true → Stop ≡ next (standing p)
+module _ (p : Run) where
+  pub asks_none : p.at.failed ≡ true → Stop ≡ next (standing p)
   unfolding next
   asks_none h = rw h refl
 
-  module _ (well : p.failed ≡ false) where
-    pub asks_write : p.written < length p.lines.out.items → Write ≡ next (standing p)
+  module _ (well : p.at.failed ≡ false) where
+    pub asks_write : p.at.written < length p.lines.out.items → Write ≡ next (standing p)
     unfolding next
-    asks_write h = rw (well, some_of (drop p.written p.lines.out.items) (rw (length-drop p.written p.lines.out.items) (omega arith))) refl
+    asks_write h = rw (well, some_of (drop p.at.written p.lines.out.items) (rw (length-drop p.at.written p.lines.out.items) (omega arith))) refl
 
-    module _ (h : length p.lines.out.items ≤ p.written) where
-      none_left : some (drop p.written p.lines.out.items) ≡ false
-      none_left = none_of (drop p.written p.lines.out.items) (rw (length-drop p.written p.lines.out.items) (omega arith))
+    module _ (h : length p.lines.out.items ≤ p.at.written) where
+      none_left : some (drop p.at.written p.lines.out.items) ≡ false
+      none_left = none_of (drop p.at.written p.lines.out.items) (rw (length-drop p.at.written p.lines.out.items) (omega arith))
 
-      pub asks_end : p.ended ≡ true → Stop ≡ next (standing p)
+      pub asks_end : p.at.ended ≡ true → Stop ≡ next (standing p)
       unfolding next
       asks_end e = rw (none_left, well, e) refl
 
-      pub asks_read : p.ended ≡ false → Read ≡ next (standing p)
+      pub asks_read : p.at.ended ≡ false → Read ≡ next (standing p)
       unfolding next
       asks_read e = rw (none_left, well, e) refl
 
@@ -257,52 +257,52 @@ module _ (place : ℕ) (limits : List Float) (begun : List ℕ) (h : Option ℕ)
         ends = λ is not. ends (read_ends (mk place limits begun [] false false) h behind is not);
       }
 
-module _ (p : Progress) {ask : Ask} (long : length p.block ≡ 512) (asked : ask ≡ next (standing p)) where
+module _ (p : Run) {ask : Ask} (long : length p.block ≡ 512) (asked : ask ≡ next (standing p)) where
   pending : List ℕ
-  pending = drop p.written p.lines.out.items
+  pending = drop p.at.written p.lines.out.items
 
-  room : length (take p.filled p.block) + length (drop p.filled p.block) ≡ 512
-  room = let r = p.room_left in rw (length-drop p.filled p.block, length-take p.filled p.block) (omega (arith, long, r))
+  room : length (take p.at.filled p.block) + length (drop p.at.filled p.block) ≡ 512
+  room = let r = p.room_left in rw (length-drop p.at.filled p.block, length-take p.at.filled p.block) (omega (arith, long, r))
 
   pub turned_stop : (left held : Option (List ℕ)) → ask ≡ Stop → Turned p p left left held held
   unfolding pending
   turned_stop left held e =
-      let same = stop_stays p.place (numbers p.limits) (take p.filled p.block) None (drop p.filled p.block) pending p.ended p.failed (sym e ∙ asked) in
+      let same = stop_stays p.at.place (numbers p.limits) (take p.at.filled p.block) None (drop p.at.filled p.block) pending p.at.ended p.at.failed (sym e ∙ asked) in
       record {
         gave = None;
-        behind = drop p.filled p.block;
+        behind = drop p.at.filled p.block;
         room = room;
         went = record { stands = sym same; places = omega arith };
-        moved = stop_moves p.place (numbers p.limits) (take p.filled p.block) None (drop p.filled p.block) left held pending p.ended p.failed (sym e ∙ asked);
+        moved = stop_moves p.at.place (numbers p.limits) (take p.at.filled p.block) None (drop p.at.filled p.block) left held pending p.at.ended p.at.failed (sym e ∙ asked);
       }
 
-  pub turned_write : (left held₀ held : Option (List ℕ)) (gave : Option ℕ) {r : Progress} → ask ≡ Write → Went (after_write (standing p) gave) r p.place
-      → Appends held₀ held (take (count gave) (drop p.written p.lines.out.items)) → Turned p r left left held₀ held
+  pub turned_write : (left held₀ held : Option (List ℕ)) (gave : Option ℕ) {r : Run} → ask ≡ Write → Went (after_write (standing p) gave) r p.at.place
+      → Appends held₀ held (take (count gave) (drop p.at.written p.lines.out.items)) → Turned p r left left held₀ held
   unfolding pending
   turned_write left held₀ held gave e went more =
-      let goes = write_goes p.place (numbers p.limits) (take p.filled p.block) gave (drop p.filled p.block) pending p.ended p.failed (sym e ∙ asked) in
+      let goes = write_goes p.at.place (numbers p.limits) (take p.at.filled p.block) gave (drop p.at.filled p.block) pending p.at.ended p.at.failed (sym e ∙ asked) in
       record {
         gave = gave;
-        behind = drop p.filled p.block;
+        behind = drop p.at.filled p.block;
         room = room;
         went = rw goes went;
-        moved = write_moves p.place (numbers p.limits) (take p.filled p.block) gave (drop p.filled p.block) left held₀ held pending p.ended p.failed (sym e ∙ asked) more;
+        moved = write_moves p.at.place (numbers p.limits) (take p.at.filled p.block) gave (drop p.at.filled p.block) left held₀ held pending p.at.ended p.at.failed (sym e ∙ asked) more;
       }
 
   -- `block` is the block after the read
-  pub turned_read : (left₀ left held : Option (List ℕ)) (gave : Option ℕ) (block : List ℕ) {r : Progress} → ask ≡ Read
-      → length block ≡ length p.block → take p.filled block ≡ take p.filled p.block
-      → Consumes left₀ left (take (count gave) (drop p.filled block)) → (gave ≡ Some 0 → IsAtEnd left)
-      → Went (after_read (mk p.place (numbers p.limits) (take p.filled block) (drop p.written p.lines.out.items) p.ended p.failed) gave (drop p.filled block)) r p.place
+  pub turned_read : (left₀ left held : Option (List ℕ)) (gave : Option ℕ) (block : List ℕ) {r : Run} → ask ≡ Read
+      → length block ≡ length p.block → take p.at.filled block ≡ take p.at.filled p.block
+      → Consumes left₀ left (take (count gave) (drop p.at.filled block)) → (gave ≡ Some 0 → IsAtEnd left)
+      → Went (after_read (mk p.at.place (numbers p.limits) (take p.at.filled block) (drop p.at.written p.lines.out.items) p.at.ended p.at.failed) gave (drop p.at.filled block)) r p.at.place
       → Turned p r left₀ left held held
   unfolding pending
   turned_read left₀ left held gave block e so_long begun more ends went =
-      let goes = read_goes p.place (numbers p.limits) (take p.filled p.block) gave (drop p.filled block) pending p.ended p.failed (sym e ∙ asked) in
+      let goes = read_goes p.at.place (numbers p.limits) (take p.at.filled p.block) gave (drop p.at.filled block) pending p.at.ended p.at.failed (sym e ∙ asked) in
       let went' = rw begun at went in
       record {
         gave = gave;
-        behind = drop p.filled block;
-        room = let r = p.room_left in rw (length-drop p.filled block, length-take p.filled p.block) (omega (arith, so_long, long, r));
+        behind = drop p.at.filled block;
+        room = let r = p.room_left in rw (length-drop p.at.filled block, length-take p.at.filled p.block) (omega (arith, so_long, long, r));
         went = rw goes went';
-        moved = read_moves p.place (numbers p.limits) (take p.filled p.block) gave (drop p.filled block) left₀ left held pending p.ended p.failed (sym e ∙ asked) more ends;
+        moved = read_moves p.at.place (numbers p.limits) (take p.at.filled p.block) gave (drop p.at.filled block) left₀ left held pending p.at.ended p.at.failed (sym e ∙ asked) more ends;
       }

@@ -6,7 +6,7 @@ ghost use Rattle.stream.specs.Standing.{count, next};
 ghost use Rattle.stream.specs.Calls.{Served, Copied};
 ghost use Rattle.stream.specs.Progress.{standing, Turned};
 
-use crate::progress::{Ask, Progress, hear};
+use crate::progress::{Ask, Run, hear};
 use std::io;
 use std::io::{Eprint, Read, Write};
 
@@ -35,26 +35,26 @@ fn write_on<O: Write>(output: &mut O, out: &[u8], written: usize) -> Option<usiz
 }
 
 // One read, and how the program goes on after it.
-fn read_turn<I: Read>(input: &mut I, p: &mut Progress)
-    requires { (p.old.place + 1 < 2 ^ 64) × (next (standing p.old) ≡ Ask.Read) }
+fn read_turn<I: Read>(input: &mut I, p: &mut Run)
+    requires { (p.old.at.place + 1 < 2 ^ 64) × (next (standing p.old) ≡ Ask.Read) }
     ensures { (held : Option (List ℕ)) → Turned p.old p.new (I.remaining input.old) (I.remaining input.new) held held }
 {
-    let gave = read_on(input, &mut p.block, p.filled);
+    let gave = read_on(input, &mut p.block, p.at.filled);
     p.after_read(gave);
 }
 
 // One write, and how the program goes on after it.
-fn write_turn<O: Write>(output: &mut O, p: &mut Progress)
+fn write_turn<O: Write>(output: &mut O, p: &mut Run)
     requires { next (standing p.old) ≡ Ask.Write }
     ensures { (left : Option (List ℕ)) → Turned p.old p.new left left (O.contents output.old) (O.contents output.new) }
 {
-    let gave = write_on(output, p.lines.out.as_slice(), p.written);
+    let gave = write_on(output, p.lines.out.as_slice(), p.at.written);
     p.after_write(gave);
 }
 
 // One call of the system, and how the program goes on after it.
-fn turn<I: Read, O: Write>(input: &mut I, output: &mut O, p: &mut Progress, ask: Ask)
-    requires { (p.old.place + 1 < 2 ^ 64) × (ask ≡ next (standing p.old)) }
+fn turn<I: Read, O: Write>(input: &mut I, output: &mut O, p: &mut Run, ask: Ask)
+    requires { (p.old.at.place + 1 < 2 ^ 64) × (ask ≡ next (standing p.old)) }
     ensures { Turned p.old p.new (I.remaining input.old) (I.remaining input.new) (O.contents output.old) (O.contents output.new) }
 {
     match ask {
@@ -66,7 +66,7 @@ fn turn<I: Read, O: Write>(input: &mut I, output: &mut O, p: &mut Progress, ask:
 
 // Calls until nothing more is asked. (No run comes to the last count.) What is written is the lines
 // of what is read, or a beginning of them.
-pub fn serve<I: Read, O: Write>(input: &mut I, output: &mut O, p: &mut Progress)
+pub fn serve<I: Read, O: Write>(input: &mut I, output: &mut O, p: &mut Run)
     ensures served { Served (standing p.new) (2 ^ 64 - 2) }
     ensures copied { Copied (standing p.new) (I.remaining input.old) (I.remaining input.new) (O.contents output.old) (O.contents output.new) }
 {
@@ -81,11 +81,11 @@ pub fn serve<I: Read, O: Write>(input: &mut I, output: &mut O, p: &mut Progress)
 }
 
 // A read or a write that failed is told: the lines then end early.
-fn tell<E: Eprint>(errors: &E, p: &Progress) -> io::Result<()> {
-    if !p.failed {
+fn tell<E: Eprint>(errors: &E, p: &Run) -> io::Result<()> {
+    if !p.at.failed {
         return Ok(());
     }
-    if p.written < p.lines.out.len() {
+    if p.at.written < p.lines.out.len() {
         eprintln!(errors; "saihkeb: standard output could not be written")
     } else {
         eprintln!(errors; "saihkeb: standard input could not be read")
@@ -96,7 +96,7 @@ fn tell<E: Eprint>(errors: &E, p: &Progress) -> io::Result<()> {
 pub fn run(rt: &HostRuntime) -> io::Result<()> {
     let mut input = rt.stdin();
     let mut output = rt.stdout();
-    let mut p = Progress::new();
+    let mut p = Run::new();
     serve(&mut input, &mut output, &mut p);
     tell(rt, &p)
 }

@@ -8,4 +8,4 @@ mod calls;
 mod progress;
 
 pub use calls::{run, serve};
-pub use progress::Progress;
+pub use progress::{Limits, Progress, Run};

@@ -1,6 +1,6 @@
 // What the program makes of each call of the system: from the bytes that were read so far and the
 // number that the call gave, what to print and how to go on.
-ghost use Rattle.std.specs.Prelude.{◌≡◌, cond, ◌+◌, ◌≤◌, ◌<◌, ◌^◌, length, take, drop};
+ghost use Rattle.std.specs.Prelude.{◌≡◌, false, cond, ◌+◌, ◌≤◌, ◌<◌, ◌^◌, length, take, drop};
 ghost use Rattle.limits_block.specs.LimitsBlock.{accepted, in_force};
 ghost use Rattle.stream.specs.Standing.{numbers, start, full, received, closed, heard, count, next, after_write, after_read};
 
@@ -8,25 +8,47 @@ use limits_block::take_limits;
 use lines::{Space, lines};
 use std::io;
 
-// How the program stands between two calls: of the block at `place` the first `filled` bytes were
-// read; of the lines the first `written` bytes were written, and as long as there are more nothing
-// is read. A run is made in one of these, wherever it stood before. (No enum of states: `ended` and
-// `failed` may each hold with lines still to be written.)
-#[derive(Drop)]
+// Limits that are in force: twelve numbers.
+pub type Limits = [f64; 12];
+
+// How far the program is between two calls: of the block at `place` the first `filled` bytes were read; of
+// the lines the first `written` bytes were written, and as long as there are more nothing is read. (No
+// enum of states: `ended` and `failed` may each hold with lines still to be written.)
+#[derive(Clone, Copy)]
 pub struct Progress {
     pub place: u64,
-    pub block: [u8; 512],
     pub filled: usize,
-    // those in force, where there are any
-    pub limits: Option<[f64; 12]>,
-    // space for the answers of a block and for their lines
-    pub lines: Space,
     pub written: usize,
     pub ended: bool,
     pub failed: bool,
+}
+
+// A run of the program: how far it is, and what it holds. One run is made after another in the same,
+// wherever it stood before.
+#[derive(Drop)]
+pub struct Run {
+    pub at: Progress,
+    pub block: [u8; 512],
+    // those in force, where there are any
+    pub limits: Option<Limits>,
+    // space for the answers of a block and for their lines
+    pub lines: Space,
     // a read asks for at least a byte
-    pub ghost room_left: { filled < 512 },
-    pub ghost in_order: { written ≤ length lines.out.items },
+    pub ghost room_left: { at.filled < 512 },
+    pub ghost in_order: { at.written ≤ length lines.out.items },
+}
+
+// Before the first call.
+fn not_begun() -> Progress
+    ensures { result ≡ record { place = 0; filled = 0; written = 0; ended = false; failed = false } }
+{
+    Progress {
+        place: 0,
+        filled: 0,
+        written: 0,
+        ended: false,
+        failed: false,
+    }
 }
 
 // What the program asks of the system next.
@@ -48,7 +70,7 @@ pub fn hear(moved: io::Result<usize>, part: &[u8]) -> Option<usize>
 }
 
 // The limits in force.
-fn in_force(limits: &Option<[f64; 12]>) -> &[f64]
+fn in_force(limits: &Option<Limits>) -> &[f64]
     ensures { result.now ≡ numbers limits.now }
 {
     match limits {
@@ -59,7 +81,7 @@ fn in_force(limits: &Option<[f64; 12]>) -> &[f64]
 
 // Whether a block brings limits that are accepted, which are in force from here. (`take_limits`
 // writes over limits that are there; where there are none, there is no place to write to.)
-fn accept(block: &[u8], limits: &mut Option<[f64; 12]>) -> bool
+fn accept(block: &[u8], limits: &mut Option<Limits>) -> bool
     ensures result { result ≡ accepted block.now }
     ensures limits { numbers limits.new ≡ in_force block.now (numbers limits.old) }
 {
@@ -81,22 +103,18 @@ fn place_after(place: u64, accepted: bool) -> u64
 
 // (That the next place fits its word stands in the contracts of a read, and in no type: it is so since
 // a run counts its calls, and goes on by one place at most with each.)
-impl Progress {
+impl Run {
     ghost use Rattle.stream.specs.Progress.{standing, Went};
 
     // Before the first call.
-    pub fn new() -> Progress
+    pub fn new() -> Run
         ensures { standing result ≡ start }
     {
-        Progress {
-            place: 0,
+        Run {
+            at: not_begun(),
             block: [0; 512],
-            filled: 0,
             limits: None,
             lines: Space::new(),
-            written: 0,
-            ended: false,
-            failed: false,
         }
     }
 
@@ -104,13 +122,9 @@ impl Progress {
     pub fn start(&mut self)
         ensures { standing self.new ≡ start }
     {
-        self.place = 0;
-        self.filled = 0;
+        self.at = not_begun();
         self.limits = None;
         self.lines.out.clear();
-        self.written = 0;
-        self.ended = false;
-        self.failed = false;
     }
 
     // Lines are written before anything more is read; nothing is asked after a failure, nor at the
@@ -118,90 +132,90 @@ impl Progress {
     pub fn next(&self) -> Ask
         ensures { result ≡ next (standing self.now) }
     {
-        if self.failed {
+        if self.at.failed {
             return Ask::Stop;
         }
-        if self.written < self.lines.out.len() {
+        if self.at.written < self.lines.out.len() {
             return Ask::Write;
         }
-        if self.ended { Ask::Stop } else { Ask::Read }
+        if self.at.ended { Ask::Stop } else { Ask::Read }
     }
 
     // After a write; one that takes nothing has failed. (How much it took is asked of the caller, here and after a
     // read: std's calls promise it, and no type of theirs says it.)
     #[tactic(auto, using(crate::proofs::Took::took_is))]
     pub fn after_write(&mut self, gave: Option<usize>)
-        requires { self.old.written + count gave ≤ length self.old.lines.out.items }
-        ensures { Went (after_write (standing self.old) gave) self.new self.old.place }
+        requires { self.old.at.written + count gave ≤ length self.old.lines.out.items }
+        ensures { Went (after_write (standing self.old) gave) self.new self.old.at.place }
     {
         let took = gave.unwrap_or(0);
-        let left = self.lines.out.len() - self.written;
+        let left = self.lines.out.len() - self.at.written;
         prove!(took <= left);
         if took == 0 {
-            self.failed = true;
+            self.at.failed = true;
         } else {
-            self.written += took;
+            self.at.written += took;
         }
     }
 
     // The input has ended: a block that was begun is a short last one.
     fn close(&mut self)
-        ensures { Went (closed (standing self.old)) self.new self.old.place }
+        ensures { Went (closed (standing self.old)) self.new self.old.at.place }
     {
-        self.written = 0;
-        self.ended = true;
-        if self.filled == 0 {
+        self.at.written = 0;
+        self.at.ended = true;
+        if self.at.filled == 0 {
             self.lines.out.clear();
         } else {
             let limits = in_force(&self.limits);
             lines(
-                &self.block[..self.filled],
-                self.place,
+                &self.block[..self.at.filled],
+                self.at.place,
                 limits,
                 &mut self.lines,
             );
-            self.filled = 0;
+            self.at.filled = 0;
         }
     }
 
     // A block is full: its lines are to be written, and limits that it brings are in force from here.
     fn fill(&mut self)
-        requires { self.old.place + 1 < 2 ^ 64 }
-        ensures { Went (full (standing self.old) self.old.block) self.new self.old.place }
+        requires { self.old.at.place + 1 < 2 ^ 64 }
+        ensures { Went (full (standing self.old) self.old.block) self.new self.old.at.place }
     {
         lines(
             &self.block,
-            self.place,
+            self.at.place,
             in_force(&self.limits),
             &mut self.lines,
         );
         let accepted = accept(&self.block, &mut self.limits);
-        self.place = place_after(self.place, accepted);
-        self.filled = 0;
-        self.written = 0;
+        self.at.place = place_after(self.at.place, accepted);
+        self.at.filled = 0;
+        self.at.written = 0;
     }
 
     // n bytes more were read.
     fn take_in(&mut self, n: usize)
-        requires { (self.old.filled + n ≤ 512) × (self.old.place + 1 < 2 ^ 64) }
-        ensures { Went (received (standing self.old) (take n (drop self.old.filled self.old.block))) self.new self.old.place }
+        requires { (self.old.at.filled + n ≤ 512) × (self.old.at.place + 1 < 2 ^ 64) }
+        ensures { Went (received (standing self.old) (take n (drop self.old.at.filled self.old.block))) self.new self.old.at.place }
     {
-        let filled = self.filled + n;
+        let filled = self.at.filled + n;
         if filled == 512 {
             return self.fill();
         }
         self.lines.out.clear();
-        self.filled = filled;
-        self.written = 0;
+        self.at.filled = filled;
+        self.at.written = 0;
     }
 
     // After a read.
     pub fn after_read(&mut self, gave: Option<usize>)
-        requires { (self.old.filled + count gave ≤ 512) × (self.old.place + 1 < 2 ^ 64) }
-        ensures { Went (after_read (standing self.old) gave (drop self.old.filled self.old.block)) self.new self.old.place }
+        requires { (self.old.at.filled + count gave ≤ 512) × (self.old.at.place + 1 < 2 ^ 64) }
+        ensures { Went (after_read (standing self.old) gave (drop self.old.at.filled self.old.block)) self.new self.old.at.place }
     {
         match gave {
-            None => self.failed = true,
+            None => self.at.failed = true,
             Some(n) => {
                 if n == 0 {
                     self.close();

@@ -1,3 +1,4 @@
 pub mod Laws
+pub mod Long
 pub mod Value
 pub mod Known

@@ -12,14 +12,14 @@ use Rattle.step_search.proofs.asked_angle.Goals as goal
 
 pub returns-in-Sampling : goal.returns-in-Sampling
 unfolding angle_in angle delta
-returns-in-Sampling c =
+returns-in-Sampling g c =
     let a = c.args in
     let s = a.samples.now.items in
     c.angle.ensures ∙ ap (λ (k : ℕ). angle a.n k) c.len.ensures.value ∙ sym (ap (λ (p : SearchPhase). angle_in a.n (samples_of s) (phase_of a.n s a.row.now.items p)) c.in-Sampling.is)
 
 pub returns-in-Searching : goal.returns-in-Searching
 unfolding angle_in
-returns-in-Searching c =
+returns-in-Searching g c =
     let a = c.args in
     let s = a.samples.now.items in
     let p = c.in-Searching.p in
@@ -30,7 +30,7 @@ returns-in-Searching c =
 
 pub returns-in-Ended : goal.returns-in-Ended
 unfolding angle_in
-returns-in-Ended c =
+returns-in-Ended g c =
     let a = c.args in
     let s = a.samples.now.items in
     c.not_a_number.ensures ∙ sym (ap (λ (p : SearchPhase). angle_in a.n (samples_of s) (phase_of a.n s a.row.now.items p)) c.in-Ended.is)

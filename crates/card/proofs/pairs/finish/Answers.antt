@@ -62,9 +62,9 @@ pub invariant_of-list : goal.invariant_of-list
 invariant_of-list c =
     let r = c.requires in
     record {
-      as_many = same c.args.arm.now c.args.pose.now c.args.qs.now c.args.cs.now c.args.pairs c.new.ensures r.1 r.2;
-      few = few c.args.arm.now c.args.pose.now c.args.qs.now c.args.cs.now c.args.pairs c.new.ensures r.1 r.2 r.0;
-      usable = kept c.args.arm.now c.args.pose.now c.args.qs.now c.args.cs.now c.args.pairs c.new.ensures r.1 r.2 r.3;
+      as_many = same c.args.arm.now c.args.pose.now c.args.qs.now c.args.cs.now c.args.pairs c.new-task.ensures r.1 r.2;
+      few = few c.args.arm.now c.args.pose.now c.args.qs.now c.args.cs.now c.args.pairs c.new-task.ensures r.1 r.2 r.0;
+      usable = kept c.args.arm.now c.args.pose.now c.args.qs.now c.args.cs.now c.args.pairs c.new-task.ensures r.1 r.2 r.3;
     }
 
 pub returns-clause-result : goal.returns-clause-result

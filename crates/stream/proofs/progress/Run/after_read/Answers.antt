@@ -1,6 +1,6 @@
 -- `after_read`: a failure, the end of the input, or bytes.
 use Rattle.stream.proofs.Steps.{reads_fail, reads_none, reads_some}
-use Rattle.stream.proofs.progress.Progress.after_read.Goals as goal
+use Rattle.stream.proofs.progress.Run.after_read.Goals as goal
 
 pub returns-in-None : goal.returns-in-None
 returns-in-None c = search reads_fail

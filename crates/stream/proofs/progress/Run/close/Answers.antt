@@ -1,6 +1,6 @@
 -- `close`: nothing is printed where no block was begun.
 use Rattle.stream.proofs.Steps.{closes_none, closes_short}
-use Rattle.stream.proofs.progress.Progress.close.Goals as goal
+use Rattle.stream.proofs.progress.Run.close.Goals as goal
 
 pub returns-then-self-eq0 : goal.returns-then-self-eq0
 returns-then-self-eq0 c = search closes_none

@@ -1,6 +1,6 @@
 -- `next`: by failure, what is pending, and the end.
 use Rattle.stream.proofs.Steps.{asks_none, asks_write, asks_end, asks_read}
-use Rattle.stream.proofs.progress.Progress.next.Goals as goal
+use Rattle.stream.proofs.progress.Run.next.Goals as goal
 
 pub returns-then-self : goal.returns-then-self
 returns-then-self c = search asks_none

@@ -2,7 +2,7 @@
 use Rattle.std.proofs.Common.{◌∙◌}
 use Rattle.stream.proofs.Took.{took_is}
 use Rattle.stream.proofs.Steps.{writes_none, writes_some}
-use Rattle.stream.proofs.progress.Progress.after_write.Goals as goal
+use Rattle.stream.proofs.progress.Run.after_write.Goals as goal
 
 pub returns-then-took-eq0 : goal.returns-then-took-eq0
 returns-then-took-eq0 c = let e = c.unwrap_or-took.ensures ∙ took_is c.args.gave in search writes_none
