@@ -4,7 +4,7 @@ ghost use Rattle.answers.specs.Written.{Wrote};
 ghost use Rattle.calls_c.specs.Numbered.{by_number, family_answers};
 
 use answers::Answer;
-use arrayvec::ArrayVec;
+use array_vec::ArrayVec;
 use kinematics::Kinematics;
 use linear::{Matrix3, Vector3};
 

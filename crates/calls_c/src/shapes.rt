@@ -1,7 +1,7 @@
 // How values of several kinds stand among plain numbers.
 ghost use Rattle.std.specs.Prelude.{◌≡◌, ◌+◌, ◌*◌, ◌≤◌, Float, List, [], ◌∷◌, length};
 
-use arrayvec::ArrayVec;
+use array_vec::ArrayVec;
 use complex::Complex;
 use float::SinCos;
 use linear::Vector3;
@@ -185,7 +185,7 @@ pub(crate) fn put_list<T: Row<N>, const N: usize, const M: usize>(
     requires { (M * N + 1 ≤ 23) × (N ≤ 22) }
 {
     let mut slots = [[0.0; N]; M];
-    for (slot, x) in slots.iter_mut().zip(list) {
+    for (slot, x) in slots.iter_mut().zip(list.iter()) {
         *slot = x.numbers();
     }
     out[0] = list.len() as u64;

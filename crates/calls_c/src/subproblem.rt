@@ -2,7 +2,7 @@
 ghost use Rattle.std.specs.Prelude.{◌+◌, ◌≤◌};
 
 use crate::shapes::{Row, at, put, put_list, put_solved1, put_solved2};
-use arrayvec::ArrayVec;
+use array_vec::ArrayVec;
 use float::SinCos;
 use linear::Vector3;
 use solutionset::{SolutionSet2, Triple};

@@ -7,7 +7,7 @@ ghost use Rattle.subproblems.specs.Subproblem1.{subproblem1_within};
 ghost use Rattle.families_elbow.specs.Elbow.{theta3, elbow_q3, elbow};
 
 use answers::Answer;
-use arrayvec::ArrayVec;
+use array_vec::ArrayVec;
 use families_shared::Arm;
 use kinematics::Kinematics;
 use linear::{Matrix3, Vector3};

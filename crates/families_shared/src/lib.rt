@@ -5,13 +5,13 @@
 mod arm;
 
 ghost use Rattle.std.specs.Prelude.{◌≡◌, ◌+◌, ◌≤◌, ◌++◌};
-ghost use Rattle.arrayvec.specs.ArrayVec.{array_vec_len};
+ghost use Rattle.array_vec.specs.ArrayVec.{array_vec_len};
 ghost use Rattle.linear.specs.Matrix.{product};
 ghost use Rattle.families_shared.specs.Place.{p_16};
 
 use answers::Answer;
 pub use arm::{Arm, Axis};
-use arrayvec::ArrayVec;
+use array_vec::ArrayVec;
 use kinematics::Kinematics;
 use linear::{Matrix3, Vector3};
 
@@ -41,5 +41,5 @@ pub fn append<const N: usize, const M: usize>(
     requires { array_vec_len all.old + array_vec_len more.now ≤ N }
     ensures { all.new.items ≡ all.old.items ++ more.now.items }
 {
-    all.try_extend_from_slice(more.as_slice()).unwrap();
+    all.extend_from_slice(more.as_slice());
 }

@@ -6,7 +6,7 @@ ghost use Rattle.linear.specs.Matrix.{apply, transpose};
 ghost use Rattle.families_wrist.specs.Wrist.{t5, wrist_q5, wrist};
 
 use answers::Answer;
-use arrayvec::ArrayVec;
+use array_vec::ArrayVec;
 use families_shared::Arm;
 use linear::{Matrix3, Vector3};
 use subproblems::Solved2;

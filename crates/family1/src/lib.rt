@@ -7,7 +7,7 @@ ghost use Rattle.linear.specs.Vector.{◌+ᵛ◌, negᵛ};
 ghost use Rattle.family1.specs.SphericalTwoParallel.{t1, t3, q2, at_q3, at_q1, spherical_two_parallel};
 
 use answers::Answer;
-use arrayvec::ArrayVec;
+use array_vec::ArrayVec;
 use families_shared::{Arm, append, product4};
 use families_wrist::wrist;
 use kinematics::Kinematics;

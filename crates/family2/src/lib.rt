@@ -7,7 +7,7 @@ ghost use Rattle.linear.specs.Vector.{negᵛ};
 ghost use Rattle.family2.specs.SphericalTwoIntersecting.{p_16, t3, t12, at_q12, at_q3, spherical_two_intersecting};
 
 use answers::Answer;
-use arrayvec::ArrayVec;
+use array_vec::ArrayVec;
 use families_shared::{Arm, append, product4};
 use families_wrist::wrist;
 use kinematics::Kinematics;

@@ -5,7 +5,7 @@ ghost use Rattle.std.specs.Prelude.{◌≡◌};
 ghost use Rattle.family3.specs.Spherical.{t123, at_q123, spherical};
 
 use answers::Answer;
-use arrayvec::ArrayVec;
+use array_vec::ArrayVec;
 use families_shared::{Arm, append, p_16, product4};
 use families_wrist::wrist;
 use kinematics::Kinematics;

@@ -6,7 +6,7 @@ ghost use Rattle.linear.specs.Matrix.{product, apply, transpose, rot};
 ghost use Rattle.family4.specs.ThreeParallelTwoIntersecting.{theta1, theta5, d_inner, q6, at_q5, at_q1, three_parallel_two_intersecting};
 
 use answers::Answer;
-use arrayvec::ArrayVec;
+use array_vec::ArrayVec;
 use families_elbow::{GivenQ156, theta14};
 use families_shared::{Arm, append, p_16, product4};
 use kinematics::Kinematics;

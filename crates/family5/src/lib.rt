@@ -7,7 +7,7 @@ ghost use Rattle.linear.specs.Vector.{◌-ᵛ◌};
 ghost use Rattle.family5.specs.ThreeParallel.{theta15, q6, at_q15, three_parallel};
 
 use answers::Answer;
-use arrayvec::ArrayVec;
+use array_vec::ArrayVec;
 use families_elbow::{GivenQ156, theta14};
 use families_shared::{Arm, append, p_16};
 use kinematics::Kinematics;

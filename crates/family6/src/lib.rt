@@ -12,6 +12,7 @@ use answers::Answer;
 use kinematics::Kinematics;
 use linear::{Matrix3, Vector3};
 use search_error::Fixed;
+use search_pairs::LentPairs;
 pub use search_pairs::PairList;
 
 // The pairs of an arm and a pose by a search over n + 1 samples, in a list with room for 17,600: 44 * 400,
@@ -25,7 +26,11 @@ pub fn two_parallel(
 )
     ensures { Kept r_06 p_0t kin n list.new }
 {
-    search::search_1d_bracketed(&Fixed::new(kin, r_06, p_0t), n, list);
+    let mut lent = LentPairs::new(&mut list.angles, &mut list.components);
+    search::search_1d_bracketed(&Fixed::new(kin, r_06, p_0t), n, &mut lent);
+    let (pairs, evals) = (lent.pairs, lent.evals);
+    list.pairs = pairs;
+    list.evals = evals;
 }
 
 // The answer of the pair (q1, i). What does not depend on q1 is computed anew for each answer: beside the

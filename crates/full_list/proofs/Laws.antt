@@ -11,7 +11,7 @@ use lib.Ieee.{Float, nan}
 use lib.ListN.{length, get_or, length-map}
 use denote.Bor.{Bor}
 use Rattle.std.proofs.lemmas.List.{take_all}
-use Rattle.arrayvec.specs.ArrayVec.{ArrayVec}
+use Rattle.array_vec.specs.ArrayVec.{ArrayVec}
 use Rattle.answers.specs.declared.Answer.{Answer}
 use Rattle.linear.specs.Matrix.{Matrix}
 use Rattle.linear.specs.declared.vector.Vector3.{Vector3}

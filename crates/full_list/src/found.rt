@@ -7,7 +7,7 @@ ghost use Rattle.full_list.specs.Task.{of_task};
 
 use crate::task::{TOLERANCE, Task};
 use answers::Answer;
-use arrayvec::ArrayVec;
+use array_vec::ArrayVec;
 use kinematics::Kinematics;
 use linear::{Matrix3, Vector3};
 use refusals::Family;

@@ -9,7 +9,7 @@ use crate::found::without_search;
 use crate::pairs::Pairs;
 use crate::task::Task;
 use answers::{Answer, rest};
-use arrayvec::ArrayVec;
+use array_vec::ArrayVec;
 use family6::PairList;
 use limits::Limits;
 use refusals::Family;

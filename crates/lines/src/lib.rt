@@ -5,7 +5,7 @@
 ghost use Rattle.std.specs.Prelude.{◌≡◌, []};
 ghost use Rattle.lines.specs.Lines.{pose_lines, limits_lines, lines};
 
-use arrayvec::ArrayVec;
+use array_vec::ArrayVec;
 use refusals::number_of;
 use solve_block::solve_block;
 pub use text::Buffer;

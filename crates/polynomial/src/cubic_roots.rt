@@ -5,7 +5,7 @@ ghost use Rattle.polynomial.specs.Cubic.{z, p1_of, p2_of, q1_of, q2_of, outer, t
 
 use crate::quadratic_roots::solve_quadratic_roots;
 use crate::{Cubic, EPSILON, Quadratic};
-use arrayvec::ArrayVec;
+use array_vec::ArrayVec;
 use complex::Complex;
 
 #[tactic(auto, using(crate::proofs::Literals::three), unfolding(crate::specs::Cubic::z))]

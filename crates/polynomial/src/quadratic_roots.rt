@@ -3,7 +3,7 @@ ghost use Rattle.std.specs.Prelude.{◌≡◌};
 ghost use Rattle.polynomial.specs.Quadratic.{both, solve_quadratic_roots};
 
 use crate::{EPSILON, Quadratic};
-use arrayvec::ArrayVec;
+use array_vec::ArrayVec;
 use complex::Complex;
 
 #[tactic(auto, using(crate::proofs::Literals::two))]

@@ -4,7 +4,7 @@ ghost use Rattle.polynomial.specs.Quartic.{p1_of, q1_of, p2_of, q2_of, p3_of, p4
 
 use crate::cubic_roots::solve_cubic_roots;
 use crate::{Cubic, EPSILON, Quartic};
-use arrayvec::ArrayVec;
+use array_vec::ArrayVec;
 use complex::Complex;
 
 #[tactic(auto, using(crate::proofs::Literals::two, crate::proofs::Literals::nine, crate::proofs::Literals::twenty_seven, crate::proofs::Literals::seventy_two), unfolding(crate::specs::Quartic::p1_of))]

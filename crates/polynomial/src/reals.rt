@@ -3,7 +3,7 @@ ghost use Rattle.std.specs.Prelude.{◌≡◌};
 ghost use Rattle.polynomial.specs.Roots.{real_parts, real_quartic};
 
 use crate::{Quartic, Vector5};
-use arrayvec::ArrayVec;
+use array_vec::ArrayVec;
 use complex::Complex;
 
 // The polynomial with these real coefficients.

@@ -15,7 +15,7 @@ use Rattle.search_definition.specs.Dip.{Point}
 use Rattle.search_definition.specs.Scan.{scan_samples}
 use Rattle.search_definition.specs.Search.{edge_at, edges, runs, of_component, angle, delta, angles, sample, search_1d_bracketed}
 use Rattle.search_definition.proofs.Bounds.{of_component_held, angles_length}
-use Rattle.search.specs.State.{State, held, afterwards, point, sampled, column}
+use Rattle.search.specs.State.{State, held, emptied, afterwards, point, sampled, column}
 use Rattle.search_error.specs.Fixed.{error_of, error_at}
 use Rattle.search_error.specs.declared.Fixed.{Fixed}
 use Rattle.search_pairs.specs.declared.row.Sample.{Sample}
@@ -141,13 +141,13 @@ module _ (err : ℕ → Float → Float) (n : ℕ) (l : List Sample) (g : Gridde
   same i = component_same (err i) i (column l i) (sample err n i) n (λ k h. g.each i k (omega arith))
 
   -- m is the count after the grid's samples
-  pub search_done : (q : List Float) (c : List ℕ) {t : State} {m : ℕ} → m ≡ n + 1 → t ≡ afterwards (held q c 0 m) (of_components err n (column l)) → t ≡ afterwards (held q c 0 0) (search_1d_bracketed err n)
+  pub search_done : (s : State) {t : State} {m : ℕ} → m ≡ n + 1 → t ≡ afterwards (held s.angles s.components 0 m s.lists) (of_components err n (column l)) → t ≡ afterwards (emptied s) (search_1d_bracketed err n)
   unfolding search_1d_bracketed
-  search_done q c {t} {m} em e =
+  search_done s {t} {m} em e =
       let count : m ≡ 0 + length (angles n (suc n) 0) = omega (arith, em, angles_length n (suc n) 0) in
-      let start : held q c 0 m ≡ afterwards (held q c 0 0) (asks (angles n (suc n) 0)) = (λ i. held q c 0 (count i)) ∙ after_asks (held q c 0 0) (angles n (suc n) 0) in
+      let start : held s.angles s.components 0 m s.lists ≡ afterwards (emptied s) (asks (angles n (suc n) 0)) = ap (λ (k : ℕ). held s.angles s.components 0 k s.lists) count ∙ after_asks (emptied s) (angles n (suc n) 0) in
       let all : of_components err n (column l) ≡ of_components err n (sample err n) = both (same 0) (both (same 1) (both (same 2) (same 3))) in
-      after_two (held q c 0 0) (asks (angles n (suc n) 0)) _ start (e ∙ ap (afterwards (held q c 0 m)) all)
+      after_two (emptied s) (asks (angles n (suc n) 0)) _ start (e ∙ ap (afterwards (held s.angles s.components 0 m s.lists)) all)
 
 -- one more sample of the grid, v
 pub gridded_next : (err : ℕ → Float → Float) (n : ℕ) (l : List Sample) (k : ℕ) (v : Sample) → ((i : ℕ) → sampled i v ≡ sample err n i k) → k < length l → Gridded err n k l → Gridded err n (k + 1) (set l k v)

@@ -11,11 +11,11 @@ use lib.Ieee.{Float}
 use Rattle.search_definition.specs.Found.{Out, nothing}
 use Rattle.search_definition.specs.Search.{search_1d_bracketed}
 use Rattle.search_definition.proofs.Bounds.{search_held}
-use Rattle.search.specs.State.{State, held, state, angle_of, component_of, afterwards}
+use Rattle.search.specs.State.{State, emptied, state, angle_of, component_of, afterwards}
 use Rattle.search.specs.Searched.{Searched, Listed, search_within}
-use Rattle.search_pairs.specs.declared.pair_list.PairList.{PairList}
+use Rattle.search_pairs.specs.declared.lent_pairs.LentPairs.{LentPairs}
 
-pub searched : (o : Out) {N : ℕ} (old : PairList N) {new : PairList N} → state new ≡ afterwards (held old.angles old.components 0 0) o → Searched o old new
+pub searched : (o : Out) (old : LentPairs) {new : LentPairs} → state new ≡ afterwards (emptied (state old)) o → Searched o old new
 unfolding afterwards
 searched o old e =
     record {
@@ -23,10 +23,11 @@ searched o old e =
       components = ap (λ (z : State). z.components) e;
       pairs = ap (λ (z : State). z.pairs) e ∙ zero-add _;
       evals = ap (λ (z : State). z.evals) e ∙ zero-add _;
+      lists = ap (λ (z : State). z.lists) e;
     }
 
-pub same_error : {err err' : ℕ → Float → Float} (n : ℕ) {N : ℕ} (old : PairList N) {new : PairList N} → err ≡ err' → Searched (search_within err n) old new → Searched (search_within err' n) old new
-same_error n {N} old {new} e s = subst (λ (f : ℕ → Float → Float). Searched (search_within f n) old new) e s
+pub same_error : {err err' : ℕ → Float → Float} (n : ℕ) (old : LentPairs) {new : LentPairs} → err ≡ err' → Searched (search_within err n) old new → Searched (search_within err' n) old new
+same_error n old {new} e s = subst (λ (f : ℕ → Float → Float). Searched (search_within f n) old new) e s
 
 module _ (err : ℕ → Float → Float) (n : ℕ) where
   pub within : n ≤ 400 → search_1d_bracketed err n ≡ search_within err n
@@ -35,7 +36,7 @@ module _ (err : ℕ → Float → Float) (n : ℕ) where
   pub beyond : 400 < n → nothing ≡ search_within err n
   beyond h = rw (lt-leb n 400 h)
 
-  pub listed : {N : ℕ} (old : PairList N) {new : PairList N} → n ≤ 400 → 44 * n ≤ length old.angles → 44 * n ≤ length old.components → Searched (search_within err n) old new → Listed (search_1d_bracketed err n) old new
+  pub listed : (old : LentPairs) {new : LentPairs} → n ≤ 400 → 44 * n ≤ length old.angles.now → 44 * n ≤ length old.components.now → Searched (search_within err n) old new → Listed (search_1d_bracketed err n) old new
   listed old {new} h a b w =
       let s : Searched (search_1d_bracketed err n) old new = rw (within h) w in
       let l = (search_1d_bracketed err n).found in
@@ -43,8 +44,8 @@ module _ (err : ℕ → Float → Float) (n : ℕ) where
       let m : length (map angle_of l) ≡ length l = length-map l angle_of in
       let p : length (map component_of l) ≡ length l = length-map l component_of in
       record {
-        angles = s.angles ∙ sets-eq (map angle_of l) old.angles 0 (omega (arith, k.pairs)) ∙ ap (λ (j : ℕ). map angle_of l ++ drop j old.angles) (zero-add _ ∙ m ∙ sym s.pairs);
-        components = s.components ∙ sets-eq (map component_of l) old.components 0 (omega (arith, k.pairs)) ∙ ap (λ (j : ℕ). map component_of l ++ drop j old.components) (zero-add _ ∙ p ∙ sym s.pairs);
+        angles = s.angles ∙ sets-eq (map angle_of l) old.angles.now 0 (omega (arith, k.pairs)) ∙ ap (λ (j : ℕ). map angle_of l ++ drop j old.angles.now) (zero-add _ ∙ m ∙ sym s.pairs);
+        components = s.components ∙ sets-eq (map component_of l) old.components.now 0 (omega (arith, k.pairs)) ∙ ap (λ (j : ℕ). map component_of l ++ drop j old.components.now) (zero-add _ ∙ p ∙ sym s.pairs);
         pairs = s.pairs;
         evals = s.evals;
       }

@@ -9,14 +9,14 @@ use Rattle.search_definition.specs.Search.{search_1d_bracketed}
 use Rattle.search_definition.specs.Demand.{Demand3}
 use Rattle.search_error.specs.Error.{error_i, t64_count}
 use Rattle.search.specs.Searched.{Listed, search_within}
-use Rattle.search_pairs.specs.declared.pair_list.PairList.{PairList}
+use Rattle.search_pairs.specs.declared.lent_pairs.LentPairs.{LentPairs}
 
 -- the search's definition over the error of two_parallel: its list, with what added each position, and the angles that it asks
 abbrev pub two_parallel_search : Kinematics → Matrix → Vector3 → ℕ → Out
 two_parallel_search kin r_06 p_0t n = search_within (error_i kin r_06 p_0t) n
 
 module _ (kin : Kinematics) (r_06 : Matrix) (p_0t : Vector3) (n : ℕ) where
-  pub record Demanded {N : ℕ} (old new : PairList N) : Type 0 where
+  pub record Demanded (old new : LentPairs) : Type 0 where
     -- "evaluates its error exactly as often as the definition does": its field `evals`.
     -- "The search's list is then the definition's, bit for bit and in its order": its fields `angles`, `components` and `pairs`.
     pub listed : Listed (search_1d_bracketed (error_i kin r_06 p_0t) n) old new

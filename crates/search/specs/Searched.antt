@@ -1,4 +1,4 @@
--- What the search leaves in the lent lists and their counts.
+-- What the search leaves in the lent lists, and its counts.
 use Rattle.std.specs.Prelude.{cond, List, ◌++◌, map, ◌≡◌, ℕ, ◌<◌, leb, length, drop, Float}
 use Rattle.std.proofs.lemmas.List.Edits.{sets}
 use Rattle.std.specs.Float.Ieee.{neg}
@@ -6,9 +6,9 @@ use Rattle.float.specs.Num.{◌⊕◌, ◌⊖◌, ◌⊗◌, ◌⊘◌, as_f64, 
 use Rattle.search_definition.specs.Found.{Out, nothing, ◌then◌}
 use Rattle.search_definition.specs.Dip.{Point}
 use Rattle.search_definition.specs.Search.{sample, of_component, search_1d_bracketed}
-use Rattle.search.specs.State.{column, angle_of, component_of}
+use Rattle.search.specs.State.{column, angle_of, component_of, lists_of}
 use Rattle.search_pairs.specs.declared.row.Sample.{Sample}
-use Rattle.search_pairs.specs.declared.pair_list.PairList.{PairList}
+use Rattle.search_pairs.specs.declared.lent_pairs.LentPairs.{LentPairs}
 
 -- left + k * delta, written out
 abbrev pub spaced : ℕ → ℕ → Float
@@ -32,15 +32,17 @@ abbrev pub search_within : (ℕ → Float → Float) → ℕ → Out
 search_within err n = cond (leb n 400) (search_1d_bracketed err n) nothing
 
 -- The pairs of o stand in the two lists from the first place on, as far as there is room, and the rest of the lists is as it was. All pairs are counted, and all evaluations.
-pub record Searched (o : Out) {N : ℕ} (old new : PairList N) : Type 0 where
-  pub angles : new.angles ≡ sets old.angles 0 (map angle_of o.found)
-  pub components : new.components ≡ sets old.components 0 (map component_of o.found)
+pub record Searched (o : Out) (old new : LentPairs) : Type 0 where
+  pub angles : new.angles.now ≡ sets old.angles.now 0 (map angle_of o.found)
+  pub components : new.components.now ≡ sets old.components.now 0 (map component_of o.found)
   pub pairs : new.pairs ≡ length o.found
   pub evals : new.evals ≡ length o.asked
+  -- the lists are still those that were lent
+  pub lists : lists_of new.angles new.components ≡ lists_of old.angles old.components
 
 -- The same with room for every pair: the lists are the definition's, in its order, and then what stood there.
-pub record Listed (o : Out) {N : ℕ} (old new : PairList N) : Type 0 where
-  pub angles : new.angles ≡ map angle_of o.found ++ drop new.pairs old.angles
-  pub components : new.components ≡ map component_of o.found ++ drop new.pairs old.components
+pub record Listed (o : Out) (old new : LentPairs) : Type 0 where
+  pub angles : new.angles.now ≡ map angle_of o.found ++ drop new.pairs old.angles.now
+  pub components : new.components.now ≡ map component_of o.found ++ drop new.pairs old.components.now
   pub pairs : new.pairs ≡ length o.found
   pub evals : new.evals ≡ length o.asked

@@ -4,7 +4,7 @@ ghost use Rattle.std.specs.Prelude.{◌≡◌, ◌<◌, ◌≤◌, ◌+◌, leng
 ghost use Rattle.search_definition.specs.Search as Search;
 ghost use Rattle.search_definition.specs.Search.{edges, runs, of_component, search_1d_bracketed};
 ghost use Rattle.search_error.specs.Fixed.{branch_error, error_at};
-ghost use Rattle.search.specs.State.{Roomy, column, points, held, state, afterwards};
+ghost use Rattle.search.specs.State.{Roomy, column, points, emptied, state, afterwards};
 ghost use Rattle.search.specs.Demand.{two_parallel_search};
 ghost use Rattle.search.specs.Searched.{spaced, Gridded, of_components, Searched, search_within};
 
@@ -13,11 +13,11 @@ use kinematics::Kinematics;
 use linear::{Matrix3, Vector3};
 use search_edge::edge::edge_at;
 use search_error::{Branch, Fixed};
-use search_pairs::{Column, PairList, Row, Sample};
+use search_pairs::{Column, LentPairs, Row, Sample};
 use search_scan::scan::scan_samples;
 
 // A run of finite samples is ended by one that is not finite, or by the grid's end.
-pub fn scan_runs<const N: usize>(branch: &Branch, row: Row, n: usize, list: &mut PairList<N>)
+pub fn scan_runs(branch: &Branch, row: Row, n: usize, list: &mut LentPairs)
     requires { (n ≤ 400) × Roomy 100000 list.old }
     ensures { state list.new ≡ afterwards (state list.old) (runs (branch_error branch.now) branch.now.i (points row.entry) (n + 1) 0 0) }
 {
@@ -32,7 +32,7 @@ pub fn scan_runs<const N: usize>(branch: &Branch, row: Row, n: usize, list: &mut
     scan_samples(branch, row, s, n + 1 - s, list);
 }
 
-pub fn scan_edges<const N: usize>(branch: &Branch, row: Row, n: usize, list: &mut PairList<N>)
+pub fn scan_edges(branch: &Branch, row: Row, n: usize, list: &mut LentPairs)
     requires { (n ≤ 400) × Roomy 110000 list.old }
     ensures { state list.new ≡ afterwards (state list.old) (edges (branch_error branch.now) branch.now.i (points row.entry) n 0) }
 {
@@ -42,12 +42,7 @@ pub fn scan_edges<const N: usize>(branch: &Branch, row: Row, n: usize, list: &mu
 }
 
 // The branch over its component of the grid's samples.
-pub fn search_component<const N: usize>(
-    branch: &Branch,
-    samples: &[Sample],
-    n: usize,
-    list: &mut PairList<N>,
-)
+pub fn search_component(branch: &Branch, samples: &[Sample], n: usize, list: &mut LentPairs)
     requires { (n ≤ 400) × Roomy 100000 list.old }
     ensures { state list.new ≡ afterwards (state list.old) (of_component (branch_error branch.now) branch.now.i (column samples.now branch.now.i) n) }
 {
@@ -82,12 +77,7 @@ pub fn sample_grid(fixed: &Fixed, n: usize, samples: &mut [Sample]) -> u64
 }
 
 // The components one after the other.
-pub fn search_components<const N: usize>(
-    fixed: &Fixed,
-    n: usize,
-    samples: &[Sample],
-    list: &mut PairList<N>,
-)
+pub fn search_components(fixed: &Fixed, n: usize, samples: &[Sample], list: &mut LentPairs)
     requires { (n ≤ 400) × Roomy 10000 list.old }
     ensures { state list.new ≡ afterwards (state list.old) (of_components (error_at fixed.now) n (column samples.now)) }
 {
@@ -97,9 +87,9 @@ pub fn search_components<const N: usize>(
 }
 
 // The samples lie in a list of 401, which is filled up to n.
-pub fn search_grid<const N: usize>(fixed: &Fixed, n: usize, list: &mut PairList<N>)
+pub fn search_grid(fixed: &Fixed, n: usize, list: &mut LentPairs)
     requires { n ≤ 400 }
-    ensures { state list.new ≡ afterwards (held list.old.angles list.old.components 0 0) (search_1d_bracketed (error_at fixed.now) n) }
+    ensures { state list.new ≡ afterwards (emptied (state list.old)) (search_1d_bracketed (error_at fixed.now) n) }
 {
     let mut samples = [Sample::default(); 401];
     let evals = sample_grid(fixed, n, &mut samples);
@@ -108,11 +98,10 @@ pub fn search_grid<const N: usize>(fixed: &Fixed, n: usize, list: &mut PairList<
     search_components(fixed, n, &samples, list);
 }
 
-// The search over n + 1 samples, whatever was listed before. The list has room for every pair if it has
-// it for 44 * n. An n above 400, for which the samples have no room, is not searched: no pair, no evaluation.
-pub fn search_1d_bracketed<const N: usize>(fixed: &Fixed, n: usize, list: &mut PairList<N>)
-    ensures searched { Searched (search_within (error_at fixed.now) n) list.old list.new }
-    ensures room { (length list.old.angles ≡ N) × (length list.old.components ≡ N) }
+// The search over n + 1 samples, whatever was listed before. The lists have room for every pair if they are
+// 44 * n long. An n above 400, for which the samples have no room, is not searched: no pair, no evaluation.
+pub fn search_1d_bracketed(fixed: &Fixed, n: usize, list: &mut LentPairs)
+    ensures { Searched (search_within (error_at fixed.now) n) list.old list.new }
 {
     list.clear();
     if n <= 400 {
@@ -121,12 +110,12 @@ pub fn search_1d_bracketed<const N: usize>(fixed: &Fixed, n: usize, list: &mut P
 }
 
 // The search of two_parallel for an arm and a pose.
-pub fn search_two_parallel<const N: usize>(
+pub fn search_two_parallel(
     kin: Kinematics,
     r_06: Matrix3,
     p_0t: Vector3,
     n: usize,
-    list: &mut PairList<N>,
+    list: &mut LentPairs,
 )
     ensures { Searched (two_parallel_search kin r_06 p_0t n) list.old list.new }
 {

@@ -6,7 +6,7 @@
 mod grid;
 
 pub use grid::{search_1d_bracketed, search_two_parallel};
-pub use search_pairs::PairList;
+pub use search_pairs::{LentPairs, PairList};
 // The grid's angles, for the search in steps.
 pub use grid::angle;
 // The parts of a search, for the test program search_vectors.

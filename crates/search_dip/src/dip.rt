@@ -13,7 +13,7 @@ ghost use Rattle.search_dip.specs.Valley.{valley};
 
 use float::{infinity, is_finite};
 use search_error::Branch;
-use search_pairs::PairList;
+use search_pairs::LentPairs;
 use search_refine::Point;
 
 const INV_PHI: f64 = 0.618033988749895;
@@ -162,7 +162,7 @@ pub fn lowest(branch: &Branch, sign: f64, a: f64, b: f64) -> Valley
 // The dip between a and b: one pair or two, or none. The contract says it for every way o to name what
 // added a pair, so that a caller can take its own; the state is the pairs listed so far and the
 // evaluations, and the counts are so low that no counter overflows.
-pub fn minimise_dip<const N: usize>(branch: &Branch, a: Point, b: Point, list: &mut PairList<N>)
+pub fn minimise_dip(branch: &Branch, a: Point, b: Point, list: &mut LentPairs)
     requires { Roomy 1000000 list.old }
     ensures { ((o : Part → Origin) → ((h : Part) → component (o h) ≡ branch.now.i) → state list.new ≡ afterwards (state list.old) (minimise_dip (branch_error branch.now) o (point_of a) (point_of b))) }
 {

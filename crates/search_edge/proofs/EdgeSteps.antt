@@ -1,5 +1,5 @@
 -- The steps at the end of a branch: bisection, and the row of samples towards it. Assumes nothing.
-use Rattle.std.proofs.Common.{◌≡◌, ℕ, suc, ◌+◌, ◌-◌, ◌<◌, ◌≤◌, Bool, true, false, List, [], ◌∷◌, ◌++◌, map, reverse, length, get_or, sym, refl, ap, ◌∙◌, ap₂, append_assoc, append-nil, add-one, arith}
+use Rattle.std.proofs.Common.{◌≡◌, ℕ, suc, ◌+◌, ◌-◌, ◌<◌, ◌≤◌, Bool, true, false, List, [], ◌∷◌, ◌++◌, map, reverse, length, sym, refl, ap, ◌∙◌, ap₂, append_assoc, append-nil, add-one, arith}
 use mathlib.Core.Bool.{beq}
 use mathlib.Core.List.{reverse-append, map-append}
 use lib.ListN.{get_or-map, length-map}

@@ -1,7 +1,7 @@
 // The end of a branch between two grid samples: it is located by bisection, and the last stretch is
 // resampled densely towards it.
 ghost use Rattle.std.specs.Prelude.{◌≡◌, [], ◌++◌, map, ◌+◌, ◌<◌, ◌≤◌, ◌^◌};
-ghost use Rattle.arrayvec.specs.ArrayVec.{array_vec_len};
+ghost use Rattle.array_vec.specs.ArrayVec.{array_vec_len};
 ghost use Rattle.float.specs.Num.{◌⊕◌, ◌⊖◌, ◌⊗◌};
 ghost use Rattle.float.specs.Number.{is_finite};
 ghost use Rattle.search_definition.specs.Found.{Place, Origin, component};
@@ -14,10 +14,10 @@ ghost use Rattle.search_pairs.specs.Row.{points};
 ghost use Rattle.search_pairs.specs.State.{Roomy, state, afterwards};
 ghost use Rattle.search_edge.specs.State.{gap};
 
-use arrayvec::ArrayVec;
+use array_vec::ArrayVec;
 use float::is_finite;
 use search_error::Branch;
-use search_pairs::{PairList, Row};
+use search_pairs::{LentPairs, Row};
 use search_refine::Point;
 use search_scan::scan::scan_samples;
 
@@ -112,8 +112,8 @@ pub fn sub_angle(lo: f64, x: f64, j: u64) -> f64
 
 // A sample goes to the end of a row, if it is finite.
 #[tactic(auto, using(crate::proofs::EdgeSteps::kept, crate::proofs::EdgeSteps::passed_over))]
-pub fn keep_finite(row: &mut ArrayVec<Point, 9>, p: Point)
-    requires { array_vec_len row.old < 9 }
+pub fn keep_finite<const E: usize>(row: &mut ArrayVec<Point, E>, p: Point)
+    requires { array_vec_len row.old < E }
     ensures len { array_vec_len row.new ≤ array_vec_len row.old + 1 }
     ensures kept { map point_of row.new.items ≡ map point_of row.old.items ++ keep (is_finite p.y) (point_of p) [] }
 {
@@ -139,7 +139,7 @@ pub fn edge_row(branch: &Branch, e: Point, p: Point) -> ArrayVec<Point, 9>
 }
 
 // What is found towards the end of a branch, whose samples go from the left to the right.
-pub fn scan_edge<const N: usize>(branch: &Branch, g: Gap, list: &mut PairList<N>)
+pub fn scan_edge(branch: &Branch, g: Gap, list: &mut LentPairs)
     requires { Roomy 800000 list.old }
     ensures { (o : Place → Origin) → ((p : Place) → component (o p) ≡ branch.now.i) → state list.new ≡ afterwards (state list.old) (edge_from (branch_error branch.now) o (gap g)) }
 {
@@ -154,7 +154,7 @@ pub fn scan_edge<const N: usize>(branch: &Branch, g: Gap, list: &mut PairList<N>
 }
 
 // What is found at the edge, if there is one, between the grid's samples k and k + 1.
-pub fn edge_at<const N: usize>(branch: &Branch, row: Row, k: usize, list: &mut PairList<N>)
+pub fn edge_at(branch: &Branch, row: Row, k: usize, list: &mut LentPairs)
     requires { (k + 1 < 2 ^ 64) × Roomy 800000 list.old }
     ensures { state list.new ≡ afterwards (state list.old) (edge_at (branch_error branch.now) branch.now.i (points row.entry) k) }
 {

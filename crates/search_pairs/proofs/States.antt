@@ -31,6 +31,7 @@ after_both s a b =
       components = sets_append component_of s.components s.pairs a.found b.found i;
       pairs = place i;
       evals = count i;
+      lists = s.lists;
     }
   where
     place : s.pairs + length (a.found ++ b.found) ≡ s.pairs + length a.found + length b.found
@@ -42,7 +43,7 @@ after_both s a b =
 pub after_nothing : (s : State) → afterwards s nothing ≡ s
 unfolding afterwards
 after_nothing s =
-    λ i. record { angles = s.angles; components = s.components; pairs = add-zero s.pairs i; evals = add-zero s.evals i }
+    λ i. record { angles = s.angles; components = s.components; pairs = add-zero s.pairs i; evals = add-zero s.evals i; lists = s.lists }
 
 -- one part and then another, by the states between
 pub after_two : (s : State) {t u : State} (a b : Out) → t ≡ afterwards s a → u ≡ afterwards t b → u ≡ afterwards s (a then b)
@@ -50,19 +51,19 @@ after_two s a b e d = d ∙ ap (λ (z : State). afterwards z b) e ∙ sym (after
 
 -- n evaluations more
 abbrev pub spend : State → ℕ → State
-spend s n = record { angles = s.angles; components = s.components; pairs = s.pairs; evals = s.evals + n }
+spend s n = record { angles = s.angles; components = s.components; pairs = s.pairs; evals = s.evals + n; lists = s.lists }
 
 pub after_asks : (s : State) (l : List Float) → spend s (length l) ≡ afterwards s (asks l)
 unfolding afterwards
 after_asks s l =
-    λ i. record { angles = s.angles; components = s.components; pairs = sym (add-zero s.pairs) i; evals = s.evals + length l }
+    λ i. record { angles = s.angles; components = s.components; pairs = sym (add-zero s.pairs) i; evals = s.evals + length l; lists = s.lists }
 
 -- one pair
-pub after_entry : (s : State) (x : Float) (i : ℕ) {q : List Float} {c : List ℕ} → q ≡ set s.angles s.pairs x → c ≡ set s.components s.pairs i → (o : Origin) → component o ≡ i → ◌≡◌ {A = State} (record { angles = q; components = c; pairs = s.pairs + 1; evals = s.evals }) (afterwards s (entry x o))
+pub after_entry : (s : State) (x : Float) (i : ℕ) {q : List Float} {c : List ℕ} → q ≡ set s.angles s.pairs x → c ≡ set s.components s.pairs i → (o : Origin) → component o ≡ i → ◌≡◌ {A = State} (record { angles = q; components = c; pairs = s.pairs + 1; evals = s.evals; lists = s.lists }) (afterwards s (entry x o))
 unfolding afterwards entry
 after_entry s x i {q} {c} eq ec o eo =
     let w : c ≡ set s.components s.pairs (component o) = ec ∙ ap (λ (z : ℕ). set s.components s.pairs z) (sym eo) in
-    λ j. record { angles = eq j; components = w j; pairs = s.pairs + 1; evals = sym (add-zero s.evals) j }
+    λ j. record { angles = eq j; components = w j; pairs = s.pairs + 1; evals = sym (add-zero s.evals) j; lists = s.lists }
 
 -- the pair of a refinement is that of its angle, after its evaluations
 module _ (f : Float → Float) (o : Origin) (p q : Point) (s : State) where
@@ -77,6 +78,7 @@ module _ (f : Float → Float) (o : Origin) (p q : Point) (s : State) where
         components = set s.components s.pairs (component o);
         pairs = s.pairs + 1;
         evals = add-zero (s.evals + length root.asked) j;
+        lists = s.lists;
       }
 
   pub after_refined : {t : State} {x : Float} {n : ℕ} → with_count x n ≡ total root → t ≡ afterwards (spend s n) (entry x o) → t ≡ afterwards s (refined f o p q)

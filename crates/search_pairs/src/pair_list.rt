@@ -1,15 +1,7 @@
-// The pairs (q1, i) that a search lists, with their count and the count of evaluations.
-ghost use Rattle.std.specs.Prelude.{◌≡◌, ◌≤◌, length, set};
+// The lists that a caller has for a search's pairs.
+ghost use Rattle.std.specs.Prelude.{◌≡◌};
 
-use search_error::Branch;
-use search_refine::Point;
-use search_refine::refine::refine_bracket;
-
-// The pairs that a search lists, as far as there is room for N: the angles q1 and, in their order, the
-// components i. They are two lists because of the memory: an array of pairs takes 16 bytes a pair and not
-// 9, which is 123 KB more for a solve, and a controller's thread has 256 KB.
-// `pairs` counts all pairs that are found, and `evals` the evaluations of the error so far. What bounds
-// them is no fact of the type, since each part of a search adds its own to the bound that it asks (Roomy).
+// Room for N pairs (q1, i) in the two lists that a search is lent (LentPairs), and its two counts.
 #[derive(Drop)]
 pub struct PairList<const N: usize> {
     pub angles: [f64; N],
@@ -18,22 +10,7 @@ pub struct PairList<const N: usize> {
     pub evals: u64,
 }
 
-// A value is written where there is room.
-fn put<T: Copy>(list: &mut [T], at: usize, value: T)
-    ensures { list.new ≡ set list.old at value }
-{
-    if at < list.len() {
-        list[at] = value;
-    }
-}
-
 impl<const N: usize> PairList<N> {
-    ghost use Rattle.search_definition.specs.Found.{Origin, component};
-    ghost use Rattle.search_definition.specs.Dip.{entry, refined};
-    ghost use Rattle.search_error.specs.Fixed.{branch_error};
-    ghost use Rattle.search_refine.specs.Point.{point_of};
-    ghost use Rattle.search_pairs.specs.State.{Roomy, held, state, afterwards};
-
     // No pair, and no evaluation yet.
     pub fn new() -> PairList<N>
         ensures { (result.pairs ≡ 0) × (result.evals ≡ 0) }
@@ -44,34 +21,5 @@ impl<const N: usize> PairList<N> {
             pairs: 0,
             evals: 0,
         }
-    }
-
-    // As if nothing were listed yet.
-    pub fn clear(&mut self)
-        ensures cleared { state self.new ≡ held self.old.angles self.old.components 0 0 }
-        ensures room { (length self.old.angles ≡ N) × (length self.old.components ≡ N) }
-    {
-        self.pairs = 0;
-        self.evals = 0;
-    }
-
-    // A pair goes to the end of the lists.
-    pub fn put_pair(&mut self, i: u8, x: f64)
-        requires { self.old.pairs ≤ 2000000 }
-        ensures { (o : Origin) → component o ≡ i → state self.new ≡ afterwards (state self.old) (entry x o) }
-    {
-        put(&mut self.angles, self.pairs, x);
-        put(&mut self.components, self.pairs, i);
-        self.pairs += 1;
-    }
-
-    // The pair of one refinement.
-    pub fn put_refined(&mut self, branch: &Branch, a: Point, b: Point)
-        requires { Roomy 2000000 self.old }
-        ensures { (o : Origin) → component o ≡ branch.now.i → state self.new ≡ afterwards (state self.old) (refined (branch_error branch.now) o (point_of a) (point_of b)) }
-    {
-        let root = refine_bracket(branch, a, b);
-        self.evals += root.evals;
-        self.put_pair(branch.i, root.x);
     }
 }

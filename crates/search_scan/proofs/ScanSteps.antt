@@ -6,8 +6,7 @@ use Prim.Native.Nat.{ℕ, zero, suc, ◌+◌, ◌-◌, ◌*◌, ◌≤◌, ◌<�
 use native.Mathlib.Omega.{arith}
 use native.Mathlib.Numerals.{add-one}
 use lib.ListN.{length, length-append}
-use lib.Ieee.{Float, le}
-use Rattle.float.specs.Number.{abs}
+use lib.Ieee.{Float}
 use Rattle.search_definition.specs.Found.{Part, Place, crossing, inner, last, first, Origin, Out, ◌then◌}
 use Rattle.search_definition.specs.Dip.{Point, refined, minimise_dip}
 use Rattle.search_definition.specs.Scan.{crosses, dips, falls_to, falls_back, if_dip, inner_dip, if_crosses, item, items, last_dip, first_dip, scan_samples}

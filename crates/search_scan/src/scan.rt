@@ -12,7 +12,7 @@ ghost use Rattle.search_pairs.specs.State.{Roomy, state, afterwards};
 use float::abs;
 use search_dip::dip::minimise_dip;
 use search_error::Branch;
-use search_pairs::{PairList, Row};
+use search_pairs::{LentPairs, Row};
 use search_refine::Point;
 
 const TOUCH: f64 = 0.5;
@@ -50,13 +50,7 @@ pub fn falls_back(y0: f64, y1: f64) -> bool
 
 // The dip between two samples, where the test held.
 #[tactic(auto, using(crate::proofs::ScanSteps::dip_held, crate::proofs::ScanSteps::dip_not_held))]
-pub fn dip_if<const N: usize>(
-    branch: &Branch,
-    held: bool,
-    a: Point,
-    b: Point,
-    list: &mut PairList<N>,
-)
+pub fn dip_if(branch: &Branch, held: bool, a: Point, b: Point, list: &mut LentPairs)
     requires { Roomy 1000000 list.old }
     ensures { (o : Part → Origin) → ((h : Part) → component (o h) ≡ branch.now.i) → state list.new ≡ afterwards (state list.old) (if_dip (branch_error branch.now) held o (point_of a) (point_of b)) }
 {
@@ -66,13 +60,7 @@ pub fn dip_if<const N: usize>(
 }
 
 // What is found between the samples l and l + 1 of a row that ends before `end`.
-pub fn scan_item<const N: usize>(
-    branch: &Branch,
-    row: Row,
-    l: usize,
-    end: usize,
-    list: &mut PairList<N>,
-)
+pub fn scan_item(branch: &Branch, row: Row, l: usize, end: usize, list: &mut LentPairs)
     requires { (l + 1 < end) × Roomy 1000000 list.old }
     ensures { (o : Place → Origin) → ((p : Place) → component (o p) ≡ branch.now.i) → state list.new ≡ afterwards (state list.old) (item (branch_error branch.now) o (points row.entry) (end - (l + 2)) l) }
 {
@@ -87,7 +75,7 @@ pub fn scan_item<const N: usize>(
 }
 
 // A dip that goes on past the last sample, l + 1.
-pub fn last_dip<const N: usize>(branch: &Branch, row: Row, l: usize, list: &mut PairList<N>)
+pub fn last_dip(branch: &Branch, row: Row, l: usize, list: &mut LentPairs)
     requires { Roomy 1000000 list.old }
     ensures { (o : Place → Origin) → ((p : Place) → component (o p) ≡ branch.now.i) → state list.new ≡ afterwards (state list.old) (last_dip (branch_error branch.now) o (points row.entry) l) }
 {
@@ -98,7 +86,7 @@ pub fn last_dip<const N: usize>(branch: &Branch, row: Row, l: usize, list: &mut 
 
 // A dip that comes from before the first sample, l. (Two functions, as the definition has them: they differ in
 // the test alone, and one that is handed its test would be no shorter than the two.)
-pub fn first_dip<const N: usize>(branch: &Branch, row: Row, l: usize, list: &mut PairList<N>)
+pub fn first_dip(branch: &Branch, row: Row, l: usize, list: &mut LentPairs)
     requires { Roomy 1000000 list.old }
     ensures { (o : Place → Origin) → ((p : Place) → component (o p) ≡ branch.now.i) → state list.new ≡ afterwards (state list.old) (first_dip (branch_error branch.now) o (points row.entry) l) }
 {
@@ -110,13 +98,7 @@ pub fn first_dip<const N: usize>(branch: &Branch, row: Row, l: usize, list: &mut
 // What the m samples from s on add. The contract says it for every way o to name the places of a
 // row, so that the grid and an edge can name their own; the state is the pairs listed so far and the
 // evaluations, and the counts are so low that no counter overflows.
-pub fn scan_samples<const N: usize>(
-    branch: &Branch,
-    row: Row,
-    s: usize,
-    m: usize,
-    list: &mut PairList<N>,
-)
+pub fn scan_samples(branch: &Branch, row: Row, s: usize, m: usize, list: &mut LentPairs)
     requires { (s + m < 2 ^ 64) × (m ≤ 401) × Roomy 900000 list.old }
     ensures { (o : Place → Origin) → ((p : Place) → component (o p) ≡ branch.now.i) → state list.new ≡ afterwards (state list.old) (scan_samples (branch_error branch.now) o (points row.entry) s m) }
 {

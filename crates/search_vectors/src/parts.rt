@@ -6,14 +6,15 @@ ghost use Rattle.std.specs.Prelude.{◌<◌, ◌≤◌};
 use crate::{place, record, rows};
 use cases::Tally;
 use float::is_finite;
-use search::PairList;
+use search::LentPairs;
 use search_error::{Branch, Fixed};
 use search_pairs::{Column, Row, Sample};
 
 fn check_rows(
     book: &[u8; 1830400],
     m: usize,
-    list: &PairList<17600>,
+    angles: &[f64; 17600],
+    components: &[u8; 17600],
     rows: &[u64; 17600],
     tally: &mut Tally,
 )
@@ -21,7 +22,7 @@ fn check_rows(
 {
     for j in 0..m {
         let is_row = record::word(book, j, record::ROW) == rows[j];
-        let ok = is_row && record::is_pair(book, j, list.angles[j], list.components[j]);
+        let ok = is_row && record::is_pair(book, j, angles[j], components[j]);
         cases::count(tally, record::CHECKS, record::ROWS, ok);
     }
 }
@@ -99,13 +100,7 @@ fn check_components(
 }
 
 // The rows' pairs, one after the other.
-fn list(
-    fixed: &Fixed,
-    n: usize,
-    samples: &[Sample],
-    list: &mut PairList<17600>,
-    rows: &mut [u64; 17600],
-)
+fn list(fixed: &Fixed, n: usize, samples: &[Sample], list: &mut LentPairs, rows: &mut [u64; 17600])
     requires { n ≤ 400 }
 {
     for i in 0..4u8 {
@@ -128,13 +123,15 @@ fn check_list(
 )
     requires { (n ≤ 400) × (m ≤ 17600) }
 {
-    let mut pairs: PairList<17600> = PairList::new();
+    let mut angles = [0.0; 17600];
+    let mut components = [0; 17600];
+    let mut pairs = LentPairs::new(&mut angles, &mut components);
     let mut rows = [0u64; 17600];
     pairs.evals = evals;
     list(fixed, n, samples, &mut pairs, &mut rows);
     let ok = record::counts(head, pairs.pairs as u64, pairs.evals);
     cases::count(tally, record::CHECKS, record::PARTS, ok);
-    check_rows(book, m, &pairs, &rows, tally);
+    check_rows(book, m, &angles, &components, &rows, tally);
 }
 
 fn fixed(head: &[u8; 432]) -> Fixed {

@@ -5,7 +5,7 @@ use crate::record;
 use float::is_finite;
 use search_edge::edge::Gap;
 use search_error::Branch;
-use search_pairs::{PairList, Row};
+use search_pairs::{LentPairs, Row};
 use search_refine::Point;
 
 // A crossing between the samples l and l + 1.
@@ -36,9 +36,12 @@ fn is_part(book: &[u8; 1830400], j: usize, pairs: usize, q0: f64, q1: f64) -> bo
 fn dip(branch: &Branch, row: Row, a: usize, b: usize, book: &[u8; 1830400], j: usize) -> bool
     requires { j < 17600 }
 {
-    let mut list: PairList<2> = PairList::new();
+    let mut angles = [0.0; 2];
+    let mut components = [0; 2];
+    let mut list = LentPairs::new(&mut angles, &mut components);
     search_dip::dip::minimise_dip(branch, row.at(a), row.at(b), &mut list);
-    is_part(book, j, list.pairs, list.angles[0], list.angles[1])
+    let pairs = list.pairs;
+    is_part(book, j, pairs, angles[0], angles[1])
 }
 
 // Whether no run of finite samples goes on at l, in a row of m samples.

@@ -2,7 +2,7 @@
 // grid's, and then each edge's. Which of them added a pair is noted beside it.
 ghost use Rattle.std.specs.Prelude.{◌<◌, ◌≤◌};
 
-use search::PairList;
+use search::LentPairs;
 use search_error::Branch;
 use search_pairs::Row;
 
@@ -11,7 +11,7 @@ const ROOM: usize = 17600;
 const EVALS: u64 = 2000000;
 
 // A list that is too long is a wrong one: it begins anew, and its number is wrong in the end.
-fn within(list: &mut PairList<17600>)
+fn within(list: &mut LentPairs)
     ensures { (list.new.pairs ≤ 17600) × (list.new.evals ≤ 2000000) }
 {
     if list.pairs > ROOM || list.evals > EVALS {
@@ -33,7 +33,7 @@ fn mark(rows: &mut [u64; 17600], from: usize, to: usize, row: u64) {
     }
 }
 
-fn grid(branch: &Branch, n: usize, row: Row, list: &mut PairList<17600>, rows: &mut [u64; 17600])
+fn grid(branch: &Branch, n: usize, row: Row, list: &mut LentPairs, rows: &mut [u64; 17600])
     requires { n ≤ 400 }
 {
     within(list);
@@ -42,7 +42,7 @@ fn grid(branch: &Branch, n: usize, row: Row, list: &mut PairList<17600>, rows: &
     mark(rows, from, list.pairs, 0);
 }
 
-fn edge(branch: &Branch, k: usize, row: Row, list: &mut PairList<17600>, rows: &mut [u64; 17600])
+fn edge(branch: &Branch, k: usize, row: Row, list: &mut LentPairs, rows: &mut [u64; 17600])
     requires { k < 400 }
 {
     within(list);
@@ -56,7 +56,7 @@ pub(crate) fn component(
     branch: &Branch,
     n: usize,
     row: Row,
-    list: &mut PairList<17600>,
+    list: &mut LentPairs,
     rows: &mut [u64; 17600],
 )
     requires { n ≤ 400 }

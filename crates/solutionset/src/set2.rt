@@ -2,7 +2,7 @@
 ghost use Rattle.std.specs.Prelude.{◌≡◌, ◌<◌, ◌≤◌, length};
 ghost use Rattle.solutionset.specs.SolutionSet2.{size, get_all, at, get_first, expect_one, expect_two, duplicated, from_vec};
 
-use arrayvec::ArrayVec;
+use array_vec::ArrayVec;
 
 #[derive(Clone, Copy)]
 pub enum SolutionSet2<T> {

@@ -2,7 +2,7 @@
 ghost use Rattle.std.specs.Prelude.{◌≡◌, ◌<◌, ◌≤◌, length};
 ghost use Rattle.solutionset.specs.SolutionSet4.{size, get_all, at, get_first, expect_one, expect_two, from_vec, map};
 
-use arrayvec::ArrayVec;
+use array_vec::ArrayVec;
 
 #[derive(Clone, Copy)]
 pub enum SolutionSet4<T> {

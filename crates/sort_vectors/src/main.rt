@@ -6,7 +6,7 @@
 
 ghost use Rattle.std.specs.Prelude.{◌≤◌};
 
-use arrayvec::ArrayVec;
+use array_vec::ArrayVec;
 use cases::pattern;
 use solutionset::Triple;
 use std::io;
@@ -102,7 +102,7 @@ fn agrees_reduced(bytes: &[u8; 792], n: usize) -> bool
 {
     let solutions = read(bytes);
     let mut candidates: ArrayVec<Triple, 16> = ArrayVec::new();
-    candidates.try_extend_from_slice(&solutions[..n]).unwrap();
+    candidates.extend_from_slice(&solutions[..n]);
     let kept = subproblem5::reduced_solutionset(&candidates).get_all();
     let mut results = [0u64; 12];
     let (rows, _) = results.as_chunks_mut::<3>();

@@ -1,5 +1,5 @@
 // A component i over its samples at the grid's points 0 to n; `row` is an edge's row.
-ghost use Rattle.std.specs.Prelude.{◌≡◌, List, ℕ, suc, ◌-◌};
+ghost use Rattle.std.specs.Prelude.{◌≡◌, List, ℕ, suc, ◌-◌, ◌≤◌};
 ghost use Rattle.search_steps.specs.ComponentSteps as Steps;
 ghost use Rattle.step_refine.specs.Point as DeclaredPoint;
 ghost use Rattle.step_pairs.specs.Landed.{landed, came};
@@ -8,7 +8,7 @@ ghost use Rattle.search_pairs.specs.Row.{points};
 ghost use Rattle.step_component.specs.State.{component_of, Handy};
 
 use crate::grid::{alike, gap_at, run_length};
-use arrayvec::ArrayVec;
+use array_vec::ArrayVec;
 use search_pairs::Row;
 use step_edge::edge::{Edge, edge_angle, edge_next, edge_way};
 use step_pairs::Found;
@@ -74,7 +74,8 @@ pub fn component_way<const N: usize>(
 }
 
 // The angle that a component asks.
-pub fn component_angle(grid: Row, z: Component, row: &ArrayVec<Point, 9>) -> f64
+pub fn component_angle<const E: usize>(grid: Row, z: Component, row: &ArrayVec<Point, E>) -> f64
+    requires { (n : ℕ) → Handy (component_of n row.now.items z) }
     ensures { (i n : ℕ) → result ≡ Steps.component_angle i (points grid.entry) n (component_of n row.now.items z) }
 {
     match z {
@@ -85,16 +86,16 @@ pub fn component_angle(grid: Row, z: Component, row: &ArrayVec<Point, 9>) -> f64
 
 // What a component comes to with the value y at the angle that it asks. What is kept of its numbers is no ghost
 // field of Component, since it speaks of the edge's row too, which lies in a list that the caller lends.
-pub fn component_next<const N: usize>(
+pub fn component_next<const E: usize, const N: usize>(
     i: u8,
     grid: Row,
     n: u32,
     z: Component,
     y: f64,
-    row: &mut ArrayVec<Point, 9>,
+    row: &mut ArrayVec<Point, E>,
     found: &mut ArrayVec<Found, N>,
 ) -> Option<Component>
-    requires { Handy (component_of n row.old.items z) }
+    requires { Handy (component_of n row.old.items z) × (9 ≤ E) }
     ensures { came (component_of n row.new.items) found.new.items result ≡ landed N found.old.items (Steps.component_next i (points grid.entry) n (component_of n row.old.items z) y) }
 {
     match z {

@@ -8,7 +8,7 @@ ghost use Rattle.search_dip.specs.Valley.{valley};
 ghost use Rattle.step_dip.specs.State.{dip_of};
 
 use crate::golden::{depth_of, moved, opened, probe};
-use arrayvec::ArrayVec;
+use array_vec::ArrayVec;
 use float::is_finite;
 use search_dip::dip::{Valley, best, left_of, right_of, sign_of};
 use step_pairs::{Found, add_pair, refined};

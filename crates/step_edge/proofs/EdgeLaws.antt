@@ -1,5 +1,5 @@
 -- The ways out of the steps of an edge, by what the code's tests and calls gave. Assumes nothing.
-use Rattle.std.proofs.Common.{◌≡◌, ◌≢◌, refl, sym, ◌∙◌, ap, ap₂, subst, Bool, true, false, List, [], ◌∷◌, ◌++◌, map, ℕ, suc, ◌+◌, ◌-◌, ◌<◌, ◌≤◌, add-one, arith, length, take, drop, reverse, Float}
+use Rattle.std.proofs.Common.{◌≡◌, ◌≢◌, refl, sym, ◌∙◌, ap, ap₂, subst, Bool, true, false, List, [], ◌∷◌, ◌++◌, map, ℕ, suc, ◌+◌, ◌-◌, ◌<◌, ◌≤◌, add-one, arith, length, reverse, Float}
 use Rattle.std.proofs.lemmas.List.{length-map, map-append, reverse-append}
 use Rattle.std.specs.Prelude.{Option, Some}
 use Rattle.std.specs.Option.{option_map}
@@ -25,12 +25,6 @@ use Rattle.step_edge.specs.declared.edge.Edge as Declared
 use Rattle.step_edge.specs.declared.edge.Edge.TheVariants.{InRow}
 
 -- ---- lists
-pub refilled : {A : Type 0} (xs ys : List A) → length xs ≡ length ys → take (length ys) (xs ++ drop (length xs) ys) ≡ xs
-refilled [] [] e = refl
-refilled [] (y ∷ ys) e = absurd (omega (arith, e))
-refilled (x ∷ xs) [] e = absurd (omega (arith, e))
-refilled (x ∷ xs) (y ∷ ys) e = ap (λ (l : List _). x ∷ l) (refilled xs ys (omega (arith, e)))
-
 pub mapped_reverse : {A B : Type 0} (f : A → B) (l : List A) → map f (reverse l) ≡ reverse (map f l)
 mapped_reverse f [] = refl
 mapped_reverse f (x ∷ l) =

@@ -1,6 +1,6 @@
 // An edge of a branch between two grid samples, beside the one inside the branch, p. Its pairs are of
 // component i.
-ghost use Rattle.std.specs.Prelude.{◌≡◌, List, ℕ, ◌≤◌, ◌<◌, ◌-◌, length, map, Float, Some};
+ghost use Rattle.std.specs.Prelude.{◌≡◌, List, ℕ, ◌≤◌, ◌<◌, ◌-◌, ◌^◌, length, map, Float, Some};
 ghost use Rattle.search_definition.specs.Found.{Place, Origin, component};
 ghost use Rattle.search_definition.specs.Dip as DipDefinition;
 ghost use Rattle.search_steps.specs.Kept.{EdgeKept};
@@ -11,7 +11,7 @@ ghost use Rattle.step_pairs.specs.declared.Found as DeclaredFound;
 ghost use Rattle.step_edge.specs.State.{gap, edge_of};
 
 use crate::row::{close_row, whole};
-use arrayvec::ArrayVec;
+use array_vec::ArrayVec;
 pub use search_edge::edge::Gap;
 use search_edge::edge::{keep_finite, sub_angle};
 use search_pairs::Row;
@@ -28,26 +28,27 @@ pub enum Edge {
 }
 
 // The row is scanned.
-pub fn row_way<const N: usize>(
+pub fn row_way<const E: usize, const N: usize>(
     i: u8,
-    row: &ArrayVec<Point, 9>,
+    row: &ArrayVec<Point, E>,
     found: &mut ArrayVec<Found, N>,
 ) -> Option<Edge>
+    requires { length row.now.items ≤ 2 ^ 32 }
     ensures { (o : Place → Origin) → ((q : Place) → component (o q) ≡ i) → (p : DipDefinition.Point) → came (edge_of row.now.items) found.new.items result ≡ landed N found.old.items (Steps.row_way o p (map point_of row.now.items)) }
 {
     scan_way(i, Row::Edge(row.as_slice()), whole(row), found).map(|z| Edge::InRow(z))
 }
 
 // The samples from number j to 7 are still to be taken behind the branch's end e.
-pub fn take_way<const N: usize>(
+pub fn take_way<const E: usize, const N: usize>(
     i: u8,
     p: Point,
     e: Point,
     j: u64,
-    row: &mut ArrayVec<Point, 9>,
+    row: &mut ArrayVec<Point, E>,
     found: &mut ArrayVec<Found, N>,
 ) -> Option<Edge>
-    requires { length row.old.items ≤ 7 }
+    requires { (length row.old.items ≤ 7) × (9 ≤ E) }
     ensures { (o : Place → Origin) → ((q : Place) → component (o q) ≡ i) → came (edge_of row.new.items) found.new.items result ≡ landed N found.old.items (Steps.take_way o (point_of p) (point_of e) (8 - j) j (map point_of row.old.items)) }
 {
     if j < 8 {
@@ -58,7 +59,7 @@ pub fn take_way<const N: usize>(
 }
 
 // k halvings are still to be made.
-pub fn halve_way(k: usize, g: Gap, row: &mut ArrayVec<Point, 9>) -> Edge
+pub fn halve_way<const E: usize>(k: usize, g: Gap, row: &mut ArrayVec<Point, E>) -> Edge
     ensures { (o : Place → Origin) (p : DipDefinition.Point) (room : ℕ) (h : List DeclaredFound.Found) → landing h (Some (edge_of row.new.items result)) ≡ landed room h (Steps.halve_way o p k (gap g)) }
 {
     if k == 0 {
@@ -76,16 +77,16 @@ pub fn edge_way(g: Gap) -> Edge
 }
 
 // The sample number j behind the branch's end e has the value y: it is kept where that is finite.
-pub fn take_next<const N: usize>(
+pub fn take_next<const E: usize, const N: usize>(
     i: u8,
     p: Point,
     e: Point,
     j: u64,
     y: f64,
-    row: &mut ArrayVec<Point, 9>,
+    row: &mut ArrayVec<Point, E>,
     found: &mut ArrayVec<Found, N>,
 ) -> Option<Edge>
-    requires { (length row.old.items < j) × (j ≤ 7) }
+    requires { (length row.old.items < j) × (j ≤ 7) × (9 ≤ E) }
     ensures { (o : Place → Origin) → ((q : Place) → component (o q) ≡ i) → came (edge_of row.new.items) found.new.items result ≡ landed N found.old.items (Steps.edge_next o (point_of p) (Steps.taking (point_of e) (7 - j) j (map point_of row.old.items)) y) }
 {
     let x = sub_angle(e.x, p.x, j);
@@ -94,7 +95,8 @@ pub fn take_next<const N: usize>(
 }
 
 // The angle that an edge asks.
-pub fn edge_angle(p: Point, z: Edge, row: &ArrayVec<Point, 9>) -> f64
+pub fn edge_angle<const E: usize>(p: Point, z: Edge, row: &ArrayVec<Point, E>) -> f64
+    requires { EdgeKept (edge_of row.now.items z) }
     ensures { (o : Place → Origin) → result ≡ Steps.edge_angle o (point_of p) (edge_of row.now.items z) }
 {
     match z {
@@ -106,15 +108,15 @@ pub fn edge_angle(p: Point, z: Edge, row: &ArrayVec<Point, 9>) -> f64
 
 // What an edge comes to with the value y at the angle that it asks. What is kept of its numbers is no ghost
 // field of Edge, since it speaks of the row too, which lies in a list that the caller lends.
-pub fn edge_next<const N: usize>(
+pub fn edge_next<const E: usize, const N: usize>(
     i: u8,
     p: Point,
     z: Edge,
     y: f64,
-    row: &mut ArrayVec<Point, 9>,
+    row: &mut ArrayVec<Point, E>,
     found: &mut ArrayVec<Found, N>,
 ) -> Option<Edge>
-    requires { EdgeKept (edge_of row.old.items z) }
+    requires { EdgeKept (edge_of row.old.items z) × (9 ≤ E) }
     ensures { (o : Place → Origin) → ((q : Place) → component (o q) ≡ i) → came (edge_of row.new.items) found.new.items result ≡ landed N found.old.items (Steps.edge_next o (point_of p) (edge_of row.old.items z) y) }
 {
     match z {

@@ -1,16 +1,17 @@
 // The row of an edge: at first the samples kept behind the branch's end, and when it is closed that end, those
 // samples and the grid's sample, in the order of the angles.
-ghost use Rattle.std.specs.Prelude.{◌≡◌, [], ◌∷◌, ◌++◌, ◌<◌, ◌+◌, length, map};
+ghost use Rattle.std.specs.Prelude.{◌≡◌, [], ◌∷◌, ◌++◌, ◌<◌, ◌≤◌, ◌+◌, ◌^◌, length, map};
 ghost use Rattle.std.specs.Float.Ieee.{lt};
 ghost use Rattle.search_definition.specs.Search as Search;
 ghost use Rattle.step_refine.specs.State.{point_of};
 
-use arrayvec::ArrayVec;
+use array_vec::ArrayVec;
 use step_refine::Point;
 use step_scan::run::Run;
 
 // All of a row.
-pub fn whole(row: &ArrayVec<Point, 9>) -> Run
+pub fn whole<const E: usize>(row: &ArrayVec<Point, E>) -> Run
+    requires { length row.now.items ≤ 2 ^ 32 }
     ensures from { result.from ≡ 0 }
     ensures count { result.count ≡ length row.now.items }
 {
@@ -22,13 +23,17 @@ pub fn whole(row: &ArrayVec<Point, 9>) -> Run
 
 // The branch's end e before the samples kept, and the grid's sample p behind them, in the order of the
 // angles.
-pub fn close_row(e: Point, p: Point, row: &mut ArrayVec<Point, 9>)
-    requires { length row.old.items + 1 < 9 }
-    ensures { map point_of row.new.items ≡ Search.reversed_if (lt p.x e.x) (point_of e ∷ (map point_of row.old.items ++ (point_of p ∷ []))) }
+pub fn close_row<const E: usize>(e: Point, p: Point, row: &mut ArrayVec<Point, E>)
+    requires { length row.old.items + 1 < E }
+    ensures len { length row.new.items ≡ length row.old.items + 2 }
+    ensures closed { map point_of row.new.items ≡ Search.reversed_if (lt p.x e.x) (point_of e ∷ (map point_of row.old.items ++ (point_of p ∷ []))) }
 {
-    row.push(p);
-    row.insert(0, e);
+    let mut all = ArrayVec::new();
+    all.push(e);
+    all.extend_from_slice(row.as_slice());
+    all.push(p);
     if p.x < e.x {
-        row.reverse();
+        all.reverse();
     }
+    *row = all;
 }

@@ -6,7 +6,7 @@ ghost use Rattle.search_definition.specs.Found.{Origin, component};
 ghost use Rattle.step_refine.specs.State.{refining_of, way_of};
 ghost use Rattle.step_pairs.specs.Landed.{put_one, entry_of, landed, came};
 
-use arrayvec::ArrayVec;
+use array_vec::ArrayVec;
 use std::ops::ControlFlow;
 use step_refine::Refining;
 

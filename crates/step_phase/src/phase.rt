@@ -1,5 +1,5 @@
 // The walk over the four components, each over its own of the grid's samples; n is the last sample's number.
-ghost use Rattle.std.specs.Prelude.{◌≡◌, List, ℕ, ◌-◌};
+ghost use Rattle.std.specs.Prelude.{◌≡◌, ◌≤◌, List, ℕ, ◌-◌};
 ghost use Rattle.search_pairs.specs.Row.{points};
 ghost use Rattle.search_steps.specs.Steps.{taken_at, components_way};
 ghost use Rattle.step_refine.specs.Point as DeclaredPoint;
@@ -8,7 +8,7 @@ ghost use Rattle.step_scan.specs.State.{samples_of};
 ghost use Rattle.step_component.specs.State.{component_of, Handy};
 ghost use Rattle.step_phase.specs.State.{place_of, searched};
 
-use arrayvec::ArrayVec;
+use array_vec::ArrayVec;
 use search_pairs::{Column, Row, Sample};
 use step_component::component::{Component, component_next, component_way};
 use step_pairs::Found;
@@ -49,15 +49,15 @@ pub fn components_way<const N: usize>(
 }
 
 // What the search comes to in component i, with the value y of that component at the angle that it asks.
-pub fn search_next<const N: usize>(
+pub fn search_next<const E: usize, const N: usize>(
     p: Place,
     samples: &[Sample],
     n: u32,
     y: f64,
-    row: &mut ArrayVec<Point, 9>,
+    row: &mut ArrayVec<Point, E>,
     found: &mut ArrayVec<Found, N>,
 ) -> Option<Place>
-    requires { Handy (component_of n row.old.items p.at) }
+    requires { Handy (component_of n row.old.items p.at) × (9 ≤ E) }
     ensures { came (place_of n row.new.items) found.new.items result ≡ landed N found.old.items (searched n (samples_of samples.now) p.i (component_of n row.old.items p.at) y) }
 {
     let i = p.i;

@@ -10,7 +10,7 @@ ghost use Rattle.search_pairs.specs.Row.{points};
 ghost use Rattle.step_scan.specs.State.{last_of, scan_of, item_way};
 
 use crate::run::Run;
-use arrayvec::ArrayVec;
+use array_vec::ArrayVec;
 use search_pairs::Row;
 use search_scan::scan::{crosses, dips, falls_back, falls_to};
 use step_dip::dip::{Dip, dip_angle, dip_next};

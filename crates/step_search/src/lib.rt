@@ -1,6 +1,6 @@
 // The whole search in steps of one evaluation each: the grid's samples, then the four components. A phase is
 // plain data by value; the samples, an edge's row and the pairs lie in lists that the caller lends: room for S
-// samples, where n + 1 are taken, and for N pairs.
+// samples, where n + 1 are taken, for E points of an edge, of which there are nine, and for N pairs.
 #![tactic(auto)]
 
 ghost use Rattle.std.specs.Prelude.{◌≡◌, List, ℕ, ◌<◌, ◌≤◌, ◌^◌, length};
@@ -15,7 +15,7 @@ ghost use Rattle.step_scan.specs.State.{samples_of};
 ghost use Rattle.step_phase.specs.State.{place_of};
 ghost use Rattle.step_search.specs.Holds.{values, memory, phase_of, phase_at, is_over, Holds, StepsTo};
 
-use arrayvec::ArrayVec;
+use array_vec::ArrayVec;
 use search::angle;
 use search_error::{Fixed, error_given_q1};
 use search_pairs::{Sample, not_a_number};
@@ -54,13 +54,13 @@ pub fn over(phase: SearchPhase) -> bool
 }
 
 // The angle that a phase asks.
-pub fn asked_angle<const S: usize>(
+pub fn asked_angle<const S: usize, const E: usize>(
     n: u32,
     phase: SearchPhase,
     samples: &ArrayVec<Sample, S>,
-    row: &ArrayVec<Point, 9>,
+    row: &ArrayVec<Point, E>,
 ) -> f64
-    requires { S < 2 ^ 32 }
+    requires { PhaseKept n (phase_of n samples.now.items row.now.items phase) }
     ensures { result ≡ angle_in n (samples_of samples.now.items) (phase_of n samples.now.items row.now.items phase) }
 {
     match phase {
@@ -102,15 +102,15 @@ pub fn sample_next<const S: usize, const N: usize>(
 }
 
 // What the search comes to in a component, where e are the error's values at the angle that it asks.
-pub fn component_next<const S: usize, const N: usize>(
+pub fn component_next<const S: usize, const E: usize, const N: usize>(
     n: u32,
     p: Place,
     e: [f64; 4],
     samples: &ArrayVec<Sample, S>,
-    row: &mut ArrayVec<Point, 9>,
+    row: &mut ArrayVec<Point, E>,
     found: &mut ArrayVec<Found, N>,
 ) -> SearchPhase
-    requires { PhaseKept n (place_of n row.old.items p) }
+    requires { PhaseKept n (place_of n row.old.items p) × (9 ≤ E) }
     ensures { StepsTo n N e (SearchPhase.Searching p) (memory samples.now.items row.old.items found.old.items) result (memory samples.now.items row.new.items found.new.items) }
 {
     let y = e[p.i as usize];
@@ -119,15 +119,15 @@ pub fn component_next<const S: usize, const N: usize>(
 
 // What a phase comes to, where e are the error's values at the angle that it asks. What is kept of its numbers is
 // no ghost field, since it speaks of the lists too, which the caller lends.
-pub fn next<const S: usize, const N: usize>(
+pub fn next<const S: usize, const E: usize, const N: usize>(
     n: u32,
     phase: SearchPhase,
     e: [f64; 4],
     samples: &mut ArrayVec<Sample, S>,
-    row: &mut ArrayVec<Point, 9>,
+    row: &mut ArrayVec<Point, E>,
     found: &mut ArrayVec<Found, N>,
 ) -> SearchPhase
-    requires { (n ≤ 400) × (n < S) × PhaseKept n (phase_of n samples.old.items row.old.items phase) }
+    requires { (n ≤ 400) × (n < S) × (9 ≤ E) × PhaseKept n (phase_of n samples.old.items row.old.items phase) }
     ensures { StepsTo n N e phase (memory samples.old.items row.old.items found.old.items) result (memory samples.new.items row.new.items found.new.items) }
 {
     match phase {
@@ -138,15 +138,15 @@ pub fn next<const S: usize, const N: usize>(
 }
 
 // One step: one evaluation of the error, at the angle that the phase asks.
-pub fn step<const S: usize, const N: usize>(
+pub fn step<const S: usize, const E: usize, const N: usize>(
     fixed: Fixed,
     n: u32,
     phase: SearchPhase,
     samples: &mut ArrayVec<Sample, S>,
-    row: &mut ArrayVec<Point, 9>,
+    row: &mut ArrayVec<Point, E>,
     found: &mut ArrayVec<Found, N>,
 ) -> SearchPhase
-    requires { (n ≤ 400) × (n < S) × (S < 2 ^ 32) × PhaseKept n (phase_of n samples.old.items row.old.items phase) }
+    requires { (n ≤ 400) × (n < S) × (9 ≤ E) × PhaseKept n (phase_of n samples.old.items row.old.items phase) }
     ensures { (s : State) → Holds n N s phase (memory samples.old.items row.old.items found.old.items) → Holds n N (Run.step (error_at fixed) n s) result (memory samples.new.items row.new.items found.new.items) }
 {
     let x = asked_angle(n, phase, samples, row);

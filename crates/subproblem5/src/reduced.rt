@@ -5,7 +5,7 @@ ghost use Rattle.solutionset.specs.SolutionSet4.{from_vec};
 ghost use Rattle.subproblem5.specs.Port.{by_first, with_gaps};
 ghost use Rattle.subproblem5.specs.Reduced.{solution_of, reduced_solutionset};
 
-use arrayvec::ArrayVec;
+use array_vec::ArrayVec;
 use solutionset::{SolutionSet4, Triple};
 use triple_sort::{Ordered, sort};
 
@@ -53,9 +53,11 @@ pub fn reduced_solutionset(solutions: &ArrayVec<Triple, 16>) -> SolutionSet4<Tri
     if solutions.len() <= 4 {
         return SolutionSet4::from_vec(solutions);
     }
-    let mut ordered = by_first(solutions);
-    sort(&mut ordered);
-    with_ordering(&mut ordered);
-    sort(&mut ordered);
-    first_four(&ordered)
+    let mut slots = [Ordered::default(); 16];
+    let ordered = &mut slots[..solutions.len()];
+    ordered.copy_from_slice(&by_first(solutions));
+    sort(ordered);
+    with_ordering(ordered);
+    sort(ordered);
+    first_four(ordered)
 }

@@ -1,13 +1,13 @@
 // Subproblem 5.
 ghost use Rattle.std.specs.Prelude.{◌≡◌, ◌+◌, ◌<◌, ◌≤◌, ◌++◌};
 ghost use mathlib.Core.List.{flat_map};
-ghost use Rattle.arrayvec.specs.ArrayVec.{array_vec_len};
+ghost use Rattle.array_vec.specs.ArrayVec.{array_vec_len};
 ghost use Rattle.subproblem5.specs.Port.{circle, sq, point, points, angles, candidate, of_points, at_root};
 ghost use Rattle.subproblem5.specs.Subproblem5.{j_transpose_times, eqn_real, h_vec, subproblem5};
 
 use crate::reduced::reduced_solutionset;
 use crate::{Circle, Point, Points};
-use arrayvec::ArrayVec;
+use array_vec::ArrayVec;
 use linear::Vector3;
 use norms::norms_agree;
 use polynomial::{Cone, Quartic, Vector2, Vector5};

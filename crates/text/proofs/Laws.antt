@@ -1,17 +1,26 @@
 -- Texts written one after another, and how long they are.
-use Rattle.std.proofs.Common.{◌≡◌, refl, sym, ℕ, zero, suc, ◌+◌, ◌-◌, ◌*◌, ◌/◌, ◌%◌, ◌^◌, ◌≤◌, ◌<◌, List, [], ◌∷◌, ◌++◌, length, get_or, take, append_assoc, append-nil, add-one, arith, lit<}
+use Rattle.std.proofs.Common.{◌≡◌, refl, sym, ℕ, zero, suc, ◌+◌, ◌-◌, ◌*◌, ◌/◌, ◌%◌, ◌^◌, ◌≤◌, ◌<◌, List, [], ◌∷◌, ◌++◌, length, get_or, take, append_assoc, append-nil, add-zero, add-one, arith, lit<}
 use Rattle.std.proofs.Math.Nat.{div-div-eq-div-mul, mod-lt, mod-eq_of_lt}
 use Rattle.std.proofs.lemmas.Nat.{pow-add}
 use Rattle.std.proofs.lemmas.Fmt.{decimal_from_appends, length-decimal-le}
 use Rattle.std.specs.Fmt.{decimal as std_decimal}
 use mathlib.Core.List.{flat_map}
 use borrow.Author.Tests.{lt-ltb, le-ltb}
-use lib.Seq.{take-suc}
+use lib.ListN.{set}
+use lib.Seq.{sets, set_comm, take-suc}
 use Rattle.text.specs.Text.{glyph, digits, places, decimal}
 
 -- xs, and then ys
 pub both : (xs ys l : List ℕ) {l1 l2 : List ℕ} → l1 ≡ l ++ xs → l2 ≡ l1 ++ ys → l2 ≡ l ++ (xs ++ ys)
 both xs ys l p q = rw (q, p, append_assoc l xs ys) refl
+
+-- the last byte may be written first
+pub last_first : (xs : List ℕ) (y : ℕ) (l : List ℕ) (at : ℕ) → sets l at (xs ++ (y ∷ [])) ≡ sets (set l (at + length xs) y) at xs
+last_first [] y l at = rw (add-zero at)
+last_first (x ∷ xs) y l at =
+    let e : at + suc (length xs) ≡ suc at + length xs = omega arith in
+    let other : at ≡ suc at + length xs → ⊥ = λ h. omega arith in
+    rw (last_first xs y (set l at x) (suc at), e, set_comm l at (suc at + length xs) x y other)
 
 -- nothing is written yet
 pub nothing : (l : List ℕ) → l ≡ l ++ []

@@ -2,7 +2,7 @@
 // them. (The words and the spaces are put one by one, and not by `write!`: text.rt says why.)
 ghost use Rattle.std.specs.Prelude.{◌≡◌, ◌++◌, ◌+◌, ◌*◌, ◌≤◌, ◌<◌, min, length};
 ghost use mathlib.Core.List.{flat_map};
-ghost use Rattle.arrayvec.specs.ArrayVec.{array_vec_len};
+ghost use Rattle.array_vec.specs.ArrayVec.{array_vec_len};
 ghost use Rattle.text.specs.Lists.{field, head, angle, line_at, lines_of};
 
 use crate::text::{Buffer, decimal, glyph, hex, put};

@@ -2,7 +2,7 @@
 use mathlib.Core.Path.{sym, ap, ◌∙◌}
 use native.Mathlib.Omega.{arith}
 use lib.Ieee.{Float}
-use Rattle.arrayvec.specs.ArrayVec.{ArrayVec}
+use Rattle.array_vec.specs.ArrayVec.{ArrayVec}
 use Rattle.polynomial.proofs.Filter.{kept, passed, whole}
 use Rattle.polynomial.proofs.reals.real_parts.Goals as goal
 use Rattle.polynomial.proofs.reals.real_parts.Goals.{then-abs-epsilon, else-abs-epsilon}

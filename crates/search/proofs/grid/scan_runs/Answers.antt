@@ -10,7 +10,7 @@ use Rattle.search.proofs.GridSteps.{run_grows, run_ends, run_last, few_runs}
 use Rattle.search.proofs.grid.scan_runs.Goals as goal
 
 pub loop-k-preserved-then-is_finite : goal.loop-k-preserved-then-is_finite
-loop-k-preserved-then-is_finite g c =
+loop-k-preserved-then-is_finite c =
     let a = c.args in (
       omega (arith, c.loop-k.invariant.0),
       ap (afterwards (state c.loop-k.list)) (sym (run_grows (branch_error a.branch.now) a.branch.now.i (points a.row) a.n c.loop-k.s c.loop-k.k c.loop-k.invariant.0 (omega (arith, c.loop-k-test.true)) (sym (c.is_finite.ensures ∙ ap (λ (p : Point). is_finite p.y) c.at.ensures) ∙ c.if-is_finite.true)))
@@ -18,14 +18,14 @@ loop-k-preserved-then-is_finite g c =
     )
 
 pub scan_samples-requires : goal.scan_samples-requires
-scan_samples-requires g c =
+scan_samples-requires c =
     let a = c.args in
     let few = few_runs (branch_error a.branch.now) a.branch.now.i (points a.row) a.n (state a.list.now) (state c.loop-k.list) _ c.loop-k.invariant.1 in
     omega (arith, few, c.loop-k.invariant.0, c.loop-k-test.true, c.requires)
 
 pub loop-k-preserved : goal.loop-k-preserved
 unfolding component
-loop-k-preserved g c =
+loop-k-preserved c =
     let a = c.args in
     let S = state c.loop-k.list in (
       omega arith,
@@ -35,14 +35,14 @@ loop-k-preserved g c =
     )
 
 pub scan_samples-requires-2 : goal.scan_samples-requires-2
-scan_samples-requires-2 g c =
+scan_samples-requires-2 c =
     let a = c.args in
     let few = few_runs (branch_error a.branch.now) a.branch.now.i (points a.row) a.n (state a.list.now) (state c.loop-k.list) _ c.loop-k.invariant.1 in
     omega (arith, few, c.loop-k.invariant.0, c.loop-k.auto.k-end, c.requires)
 
 pub returns : goal.returns
 unfolding component
-returns g c =
+returns c =
     let a = c.args in
     c.scan_samples-2.ensures (grid a.branch.now.i) (λ p. refl)
     ∙ sym (ap (afterwards (state c.loop-k.list)) (run_last (branch_error a.branch.now) a.branch.now.i (points a.row) a.n c.loop-k.s c.loop-k.k (omega (arith, c.loop-k.auto.k-end, c.loop-k-test.false))))

@@ -7,6 +7,6 @@ use Rattle.search.proofs.GridSteps.{runs_from}
 use Rattle.search.proofs.grid.scan_runs.Given as goal
 
 abbrev pub invariant-loop-k : goal.invariant-loop-k
-invariant-loop-k g l =
+invariant-loop-k l =
     (l.s ≤ l.k)
     × (afterwards (state l.list) (runs_from (branch_error l.branch) l.branch.i (points l.row) l.fn.n l.s l.k) ≡ afterwards (state l.fn.list) (runs (branch_error l.branch) l.branch.i (points l.row) (l.fn.n + 1) 0 0))

@@ -2,22 +2,22 @@
 use Rattle.std.proofs.Common.{◌∙◌, sym, ap}
 use Rattle.search_definition.specs.Search.{search_1d_bracketed}
 use Rattle.search_error.specs.Fixed.{error_at}
-use Rattle.search.specs.State.{State, held, afterwards}
+use Rattle.search.specs.State.{State, emptied, state, afterwards}
 use Rattle.search.specs.Searched.{search_within}
 use Rattle.search_pairs.proofs.States.{after_nothing}
 use Rattle.search.proofs.Listed.{searched, within, beyond}
 use Rattle.search.proofs.grid.search_1d_bracketed.Goals as goal
 
-pub returns-then-n-le400-clause-searched : goal.returns-then-n-le400-clause-searched
-returns-then-n-le400-clause-searched g c =
+pub returns-then-n-le400 : goal.returns-then-n-le400
+returns-then-n-le400 c =
     let a = c.args in
     let err = error_at a.fixed.now in
     searched (search_within err a.n) a.list.now
-    (c.search_grid.ensures ∙ ap (λ (z : State). afterwards (held z.angles z.components 0 0) (search_1d_bracketed err a.n)) c.clear.ensures.cleared ∙ ap (afterwards (held a.list.now.angles a.list.now.components 0 0)) (within err a.n c.if-n-le400.true))
+    (c.search_grid.ensures ∙ ap (λ (z : State). afterwards (emptied z) (search_1d_bracketed err a.n)) c.clear.ensures ∙ ap (afterwards (emptied (state a.list.now))) (within err a.n c.if-n-le400.true))
 
-pub returns-else-n-le400-clause-searched : goal.returns-else-n-le400-clause-searched
-returns-else-n-le400-clause-searched g c =
+pub returns-else-n-le400 : goal.returns-else-n-le400
+returns-else-n-le400 c =
     let a = c.args in
     let err = error_at a.fixed.now in
-    let s = held a.list.now.angles a.list.now.components 0 0 in
-    searched (search_within err a.n) a.list.now (c.clear.ensures.cleared ∙ sym (after_nothing s) ∙ ap (afterwards s) (beyond err a.n c.if-n-le400.false))
+    let s = emptied (state a.list.now) in
+    searched (search_within err a.n) a.list.now (c.clear.ensures ∙ sym (after_nothing s) ∙ ap (afterwards s) (beyond err a.n c.if-n-le400.false))

@@ -7,14 +7,14 @@ use Rattle.search.proofs.GridSteps.{component_done, few_runs}
 use Rattle.search.proofs.grid.search_component.Goals as goal
 
 pub scan_edges-requires : goal.scan_edges-requires
-scan_edges-requires g c =
+scan_edges-requires c =
     let a = c.args in
     let i = a.branch.now.i in
     let few = few_runs (branch_error a.branch.now) i (column a.samples.now i) a.n (state a.list.now) _ _ (after_nothing _ ∙ c.scan_runs.ensures) in
     omega (arith, few, c.requires)
 
 pub returns : goal.returns
-returns g c =
+returns c =
     let a = c.args in
     let i = a.branch.now.i in
     component_done (branch_error a.branch.now) i (column a.samples.now i) a.n (state a.list.now) c.scan_runs.ensures c.scan_edges.ensures

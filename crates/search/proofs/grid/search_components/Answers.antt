@@ -6,13 +6,13 @@ use Rattle.search.proofs.GridSteps.{component_next, components_end, few_more}
 use Rattle.search.proofs.grid.search_components.Goals as goal
 
 pub loop-i-init : goal.loop-i-init
-loop-i-init g c = (omega arith, omega arith, refl)
+loop-i-init c = (omega arith, omega arith, refl)
 
 pub search_component-requires : goal.search_component-requires
-search_component-requires g c = omega (arith, c.loop-i.invariant.0, c.loop-i.invariant.1, c.requires, c.loop-i-test.true)
+search_component-requires c = omega (arith, c.loop-i.invariant.0, c.loop-i.invariant.1, c.requires, c.loop-i-test.true)
 
 pub loop-i-preserved : goal.loop-i-preserved
-loop-i-preserved g c =
+loop-i-preserved c =
     let a = c.args in
     let err = error_at a.fixed.now in
     let i = c.loop-i.i in
@@ -23,4 +23,4 @@ loop-i-preserved g c =
     )
 
 pub returns : goal.returns
-returns g c = components_end (error_at c.args.fixed.now) c.args.n (column c.args.samples.now) c.loop-i.i (state c.loop-i.list) c.loop-i-test.false c.loop-i.invariant.2
+returns c = components_end (error_at c.args.fixed.now) c.args.n (column c.args.samples.now) c.loop-i.i (state c.loop-i.list) c.loop-i-test.false c.loop-i.invariant.2

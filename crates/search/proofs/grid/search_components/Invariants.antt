@@ -7,7 +7,7 @@ use Rattle.search.proofs.GridSteps.{components_from}
 use Rattle.search.proofs.grid.search_components.Given as goal
 
 abbrev pub invariant-loop-i : goal.invariant-loop-i
-invariant-loop-i g l =
+invariant-loop-i l =
     (l.list.pairs ≤ l.fn.list.pairs + 4400 * l.i)
     × (l.list.evals ≤ l.fn.list.evals + 312800 * l.i)
     × (afterwards (state l.list) (components_from (error_at l.fixed) l.fn.n (column l.samples) l.i) ≡ afterwards (state l.fn.list) (of_components (error_at l.fixed) l.fn.n (column l.samples)))

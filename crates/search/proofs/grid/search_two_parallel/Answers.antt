@@ -6,6 +6,6 @@ use Rattle.search.proofs.Listed.{same_error}
 use Rattle.search.proofs.grid.search_two_parallel.Goals as goal
 
 pub returns : goal.returns
-returns g c =
+returns c =
     let a = c.args in
-    same_error a.n a.list.now (ap error_at c.new.ensures ∙ error_at_same a.kin a.r_06 a.p_0t) c.search_1d_bracketed.ensures.searched
+    same_error a.n a.list.now (ap error_at c.new.ensures ∙ error_at_same a.kin a.r_06 a.p_0t) c.search_1d_bracketed.ensures

@@ -1,7 +1,6 @@
 -- The row that is scanned is the definition's, reversed where its end is on the right.
-use Rattle.std.proofs.Common.{◌≡◌, ◌∙◌, sym, ap, map, reverse, length}
-use Rattle.arrayvec.specs.ArrayVec.{ArrayVec}
-use Rattle.arrayvec.proofs.ArrayVecLemmas.{items-with_items}
+use Rattle.std.proofs.Common.{◌≡◌, ◌∙◌, sym, ap, map, length}
+use Rattle.array_vec.specs.ArrayVec.{ArrayVec}
 use Rattle.search_error.specs.Fixed.{branch_error}
 use Rattle.search_refine.specs.Point.{point_of}
 use Rattle.search_refine.specs.declared.Point as DeclaredPoint
@@ -12,7 +11,7 @@ use Rattle.search_edge.proofs.edge.scan_edge.Goals as goal
 use Rattle.search_edge.proofs.edge.scan_edge.Goals.{then-g-e, else-g-e}
 
 pub returns : goal.returns
-returns g c =
+returns c =
     let a = c.args in
     let f = branch_error a.branch.now in
     let s = state a.list.now in
@@ -21,7 +20,7 @@ returns g c =
     λ o e.
     elim c.if-g-e.branch [
       | then-g-e w ↦ edge_reversed f o (gap a.g) s l c.len.result c.bisect-e.ensures c.edge_row-row.ensures long (c.scan_samples.ensures o e) w.if-g-e.true
-          (ap (map point_of) (c.as_slice.ensures.value ∙ ap (λ (v : ArrayVec DeclaredPoint.Point). v.items) w.row-is ∙ items-with_items c.edge_row-row.result w.reverse.new.self (w.reverse.ensures.len ∙ ap length w.deref_mut.ensures.value) ∙ w.reverse.ensures.after ∙ ap reverse w.deref_mut.ensures.value) ∙ map-reverse point_of c.edge_row-row.result.items)
+          (ap (map point_of) (c.as_slice.ensures.value ∙ ap (λ (v : ArrayVec DeclaredPoint.Point). v.items) w.row-is ∙ w.reverse.ensures.items) ∙ map-reverse point_of c.edge_row-row.result.items)
       | else-g-e w ↦ edge_straight f o (gap a.g) s l c.len.result c.bisect-e.ensures c.edge_row-row.ensures long (c.scan_samples.ensures o e) w.if-g-e.false
           (ap (map point_of) (c.as_slice.ensures.value ∙ ap (λ (v : ArrayVec DeclaredPoint.Point). v.items) w.row-is))
     ]

@@ -9,7 +9,7 @@ use Rattle.search_scan.proofs.scan.first_dip.Goals as goal
 
 pub returns : goal.returns
 unfolding falls_back alike
-returns g c =
+returns c =
     let a = c.args in
     λ o e.
     first_is (branch_error a.branch.now) o (points a.row) a.l (state a.list.now) c.at-a.ensures c.behind-b.ensures c.falls_back.ensures (c.dip_if.ensures (λ (h : Part). o (first a.l h)) (λ h. e (first a.l h)))

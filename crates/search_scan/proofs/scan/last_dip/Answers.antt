@@ -9,7 +9,7 @@ use Rattle.search_scan.proofs.scan.last_dip.Goals as goal
 
 pub returns : goal.returns
 unfolding falls_to alike
-returns g c =
+returns c =
     let a = c.args in
     λ o e.
     last_is (branch_error a.branch.now) o (points a.row) a.l (state a.list.now) c.at-a.ensures c.behind-b.ensures c.falls_to.ensures (c.dip_if.ensures (λ (h : Part). o (last a.l h)) (λ h. e (last a.l h)))

@@ -10,7 +10,7 @@ use Rattle.search_scan.proofs.scan.scan_item.Goals as goal
 
 pub returns-then-crosses : goal.returns-then-crosses
 unfolding crosses alike
-returns-then-crosses g c =
+returns-then-crosses c =
     let a = c.args in
     λ o e.
     item_crossing (branch_error a.branch.now) o (points a.row) a.l (state a.list.now) c.at-a.ensures c.at-b.ensures (a.end - (a.l + 2)) c.crosses.ensures c.if-crosses.true
@@ -18,7 +18,7 @@ returns-then-crosses g c =
 
 pub returns-then-l-end : goal.returns-then-l-end
 unfolding crosses dips alike
-returns-then-l-end g c =
+returns-then-l-end c =
     let a = c.args in
     let f = branch_error a.branch.now in
     let P = points a.row in
@@ -30,7 +30,7 @@ returns-then-l-end g c =
 
 pub returns-else-l-end : goal.returns-else-l-end
 unfolding crosses alike
-returns-else-l-end g c =
+returns-else-l-end c =
     let a = c.args in
     let f = branch_error a.branch.now in
     let P = points a.row in

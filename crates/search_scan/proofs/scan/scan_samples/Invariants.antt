@@ -9,7 +9,7 @@ use Rattle.search_scan.proofs.ScanSteps.{items_from}
 use Rattle.search_scan.proofs.scan.scan_samples.Given as goal
 
 abbrev pub invariant-loop-l : goal.invariant-loop-l
-invariant-loop-l g z =
+invariant-loop-l z =
     (o : Place → Origin) → ((p : Place) → component (o p) ≡ z.branch.i) →
     afterwards (state z.list) (items_from (branch_error z.branch) o (points z.row) z.end z.l)
     ≡ afterwards (state z.fn.list) (items (branch_error z.branch) o (points z.row) (z.fn.m - 1) z.fn.s)

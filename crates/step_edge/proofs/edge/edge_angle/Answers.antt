@@ -5,14 +5,14 @@ use Rattle.step_edge.proofs.edge.edge_angle.Goals as goal
 
 pub returns-in-Halving : goal.returns-in-Halving
 unfolding edge_angle
-returns-in-Halving c = λ o. angle_from o (point_of c.args.p) c.args.row.now.items c.args.z _ c.in-Halving.is c.mid.ensures
+returns-in-Halving g c = λ o. angle_from o (point_of c.args.p) c.args.row.now.items c.args.z _ c.in-Halving.is c.mid.ensures
 
 pub returns-in-Taking : goal.returns-in-Taking
 unfolding edge_angle sub_angle
-returns-in-Taking c = λ o. angle_from o (point_of c.args.p) c.args.row.now.items c.args.z _ c.in-Taking.is c.sub_angle.ensures
+returns-in-Taking g c = λ o. angle_from o (point_of c.args.p) c.args.row.now.items c.args.z _ c.in-Taking.is c.sub_angle.ensures
 
 pub returns-in-InRow : goal.returns-in-InRow
-returns-in-InRow c =
+returns-in-InRow g c =
     let p = point_of c.args.p in
     let r = c.args.row.now.items in
     λ o.

@@ -17,4 +17,4 @@ returns g c =
     let p = point_of a.p in
     λ o i.
     takes_none g.row.N o a.found.now.items p (point_of a.e) a.j (map point_of a.row.now.items) c.if-j-lt8.false
-    (c.row_way.ensures o i p ∙ ap (λ (l : List Point). landed g.row.N a.found.now.items (row_way o p l)) c.close_row.ensures)
+    (c.row_way.ensures o i p ∙ ap (λ (l : List Point). landed g.row.N a.found.now.items (row_way o p l)) c.close_row.ensures.closed)

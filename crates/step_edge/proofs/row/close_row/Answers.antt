@@ -1,21 +1,27 @@
-use Rattle.std.proofs.Common.{◌≡◌, ◌∙◌, ap, List, [], ◌∷◌, ◌++◌, length, reverse}
+use Rattle.std.proofs.Common.{◌≡◌, refl, List, [], ◌∷◌, ◌++◌}
 use Rattle.step_refine.specs.Point.{Point}
-use Rattle.step_edge.proofs.EdgeLaws.{refilled, closes, closes_straight, closes_reversed}
+use Rattle.step_edge.proofs.EdgeLaws.{closes, closes_straight, closes_reversed}
 use Rattle.step_edge.proofs.row.close_row.Goals as goal
 
-pub returns-then-p-e : goal.returns-then-p-e
-returns-then-p-e c =
-    let a = c.args in
-    let r = a.row.now.items in
-    let m : c.insert.new.self.items ≡ a.e ∷ (r ++ (a.p ∷ [])) = c.insert.ensures.items ∙ ap (λ (l : List Point). a.e ∷ l) c.push.ensures.items in
-    let v = c.deref_mut.ensures.value in
-    let n : length c.reverse.new.self ≡ length c.insert.new.self.items = c.reverse.ensures.len ∙ ap length v in
-    closes_reversed a.e a.p r c.insert.new.self.items c.if-p-e.true (closes a.e a.p r m)
-    (refilled c.reverse.new.self c.insert.new.self.items n ∙ c.reverse.ensures.after ∙ ap reverse v)
+put_together : (e p : Point) (r : List Point) {l1 l2 l3 l4 s : List Point}
+    → l1 ≡ []
+    → l2 ≡ l1 ++ (e ∷ [])
+    → s ≡ r
+    → l3 ≡ l2 ++ s
+    → l4 ≡ l3 ++ (p ∷ [])
+    → l4 ≡ e ∷ (r ++ (p ∷ []))
+put_together e p r e1 e2 es e3 e4 = rw (e4, e3, es, e2, e1) refl
 
-pub returns-else-p-e : goal.returns-else-p-e
-returns-else-p-e c =
+pub returns-then-p-e-clause-closed : goal.returns-then-p-e-clause-closed
+returns-then-p-e-clause-closed g c =
     let a = c.args in
     let r = a.row.now.items in
-    let m : c.insert.new.self.items ≡ a.e ∷ (r ++ (a.p ∷ [])) = c.insert.ensures.items ∙ ap (λ (l : List Point). a.e ∷ l) c.push.ensures.items in
-    closes_straight a.e a.p r c.insert.new.self.items c.if-p-e.false (closes a.e a.p r m)
+    let m = put_together a.e a.p r c.new-all.ensures c.push.ensures.items c.as_slice.ensures.value c.extend_from_slice.ensures.items c.push-2.ensures.items in
+    closes_reversed a.e a.p r c.push-2.new.self.items c.if-p-e.true (closes a.e a.p r m) c.reverse.ensures.items
+
+pub returns-else-p-e-clause-closed : goal.returns-else-p-e-clause-closed
+returns-else-p-e-clause-closed g c =
+    let a = c.args in
+    let r = a.row.now.items in
+    let m = put_together a.e a.p r c.new-all.ensures c.push.ensures.items c.as_slice.ensures.value c.extend_from_slice.ensures.items c.push-2.ensures.items in
+    closes_straight a.e a.p r c.push-2.new.self.items c.if-p-e.false (closes a.e a.p r m)

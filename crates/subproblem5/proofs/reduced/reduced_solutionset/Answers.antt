@@ -5,9 +5,7 @@ use mathlib.Core.Path.{◌≡◌, refl, ap, ◌∙◌}
 use mathlib.Core.Bool.{false}
 use mathlib.Core.List.{List, [], ◌∷◌, map}
 use lib.Dec.{leb}
-use lib.ListN.{length, take, drop}
-use lib.Seq.{take_at}
-use Rattle.std.specs.List.{refill}
+use lib.ListN.{length, take}
 use borrow.Author.Tests.{le-leb, lt-leb}
 use Rattle.float.specs.Num.{infinity}
 use Rattle.solutionset.specs.SolutionSet4.{from_vec}
@@ -36,40 +34,25 @@ solutions-of : (l : List Triple) → map solution_of (map by_first l) ≡ l
 solutions-of [] = refl
 solutions-of (a ∷ l) = ap (λ (m : List Triple). a ∷ m) (solutions-of l)
 
-many : (l : List Triple) {d1 t1 d2 t2 d3 t3 d4 : List Ordered} {r : SolutionSet4 Triple}
+many : (l : List Triple) {d t1 t2 t3 : List Ordered} {r : SolutionSet4 Triple}
     → 4 < length l
-    → d1 ≡ map by_first l
-    → t1 ≡ in_order ordered_above d1
-    → d2 ≡ t1
-    → t2 ≡ with_gaps infinity d2
-    → d3 ≡ t2
-    → t3 ≡ in_order ordered_above d3
-    → d4 ≡ t3
-    → r ≡ from_vec (take 4 (map solution_of d4))
+    → d ≡ map by_first l
+    → t1 ≡ in_order ordered_above d
+    → t2 ≡ with_gaps infinity t1
+    → t3 ≡ in_order ordered_above t2
+    → r ≡ from_vec (take 4 (map solution_of t3))
     → r ≡ reduced_solutionset l
 unfolding reduced_solutionset
-many l h e1 e2 e3 e4 e5 e6 e7 e =
+many l h e1 e2 e3 e4 e =
     let t : leb (length l) 4 ≡ false = lt-leb (length l) 4 h in
     let g2 = sort_map by_first ordered_above triple_above same l in
     let g3 = solutions-of (in_order triple_above l) in
     cc
-
--- a slice of a vector's items, written with as many
-written : {A : Type 0} {x d : List A} (t : List A) → d ≡ x → length t ≡ length d → refill (length x) x t ≡ t
-written {x = x} t e h = take_at t (drop (length t) x) (length x) (h ∙ ap length e)
 
 pub returns-then-len-le4 : goal.returns-then-len-le4
 returns-then-len-le4 c = few _ (omega (arith, c.len.ensures.value)) c.deref.ensures.0 c.from_vec.ensures
 
 pub returns : goal.returns
 returns c =
-    let v1 = c.deref_mut.ensures.value in
-    let v2 = c.deref_mut-2.ensures.value in
-    let v3 = c.deref_mut-3.ensures.value in
-    let w1 = written c.sort.new.t v1 c.sort.auto.t in
-    let w2 = written c.with_ordering.new.t v2 c.with_ordering.auto.t in
-    let w3 = written c.sort-2.new.t v3 c.sort-2.auto.t in
-    let s1 = ap (λ (s : SortOf Ordered). s.result) c.sort.ensures in
-    let s2 = ap (λ (s : SortOf Ordered). s.result) c.sort-2.ensures in
-    many _ (omega (arith, c.len.ensures.value)) (v1 ∙ c.by_first-ordered.ensures) s1 (v2 ∙ w1) c.with_ordering.ensures (v3 ∙ w2) s2
-    (c.deref-2.ensures.0 ∙ w3) c.first_four.ensures
+    let result = λ (s : SortOf Ordered). s.result in
+    many _ (omega (arith, c.len.ensures.value)) (c.copy_from_slice.ensures.after ∙ c.deref-2.ensures.0 ∙ c.by_first.ensures) (ap result c.sort.ensures) c.with_ordering.ensures (ap result c.sort-2.ensures) c.first_four.ensures

@@ -1,7 +1,7 @@
 -- `angles`: the first of them are written.
 use Rattle.std.proofs.Common.{◌≡◌, ◌+◌, ◌*◌, ◌++◌, take}
 use mathlib.Core.List.{flat_map}
-use Rattle.arrayvec.specs.ArrayVec.{array_vec_len}
+use Rattle.array_vec.specs.ArrayVec.{array_vec_len}
 use Rattle.text.specs.Lists.{angle}
 use Rattle.text.proofs.lists.angles.Given as goal
 

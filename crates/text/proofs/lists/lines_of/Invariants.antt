@@ -1,6 +1,6 @@
 -- `lines_of`: the first i lines are written.
 use Rattle.std.proofs.Common.{◌≡◌, ◌+◌, ◌*◌, ◌++◌}
-use Rattle.arrayvec.specs.ArrayVec.{array_vec_len}
+use Rattle.array_vec.specs.ArrayVec.{array_vec_len}
 use Rattle.text.specs.Lists.{lines_of}
 use Rattle.text.proofs.lists.lines_of.Given as goal
 

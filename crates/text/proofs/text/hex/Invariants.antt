@@ -1,6 +1,6 @@
 -- `hex`: the first i digits are written.
 use Rattle.std.proofs.Common.{◌≡◌, ◌+◌, ◌-◌, ◌*◌, ◌/◌, ◌^◌, ◌++◌}
-use Rattle.arrayvec.specs.ArrayVec.{array_vec_len}
+use Rattle.array_vec.specs.ArrayVec.{array_vec_len}
 use Rattle.text.specs.Text.{digits}
 use Rattle.text.proofs.text.hex.Given as goal
 
