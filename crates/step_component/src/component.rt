@@ -1,5 +1,5 @@
 // A component i over its samples at the grid's points 0 to n; `row` is an edge's row.
-ghost use Rattle.std.specs.Prelude.{◌≡◌, List, ℕ, suc, ◌-◌, ◌≤◌};
+ghost use Rattle.std.specs.Prelude.{◌≡◌, List, ℕ, suc, ◌-◌, ◌^◌, ◌≤◌, ◌<◌};
 ghost use Rattle.search_steps.specs.ComponentSteps as Steps;
 ghost use Rattle.step_refine.specs.Point as DeclaredPoint;
 ghost use Rattle.step_pairs.specs.Landed.{landed, came};
@@ -73,9 +73,9 @@ pub fn component_way<const N: usize>(
     runs_way(i, grid, n, 0, found)
 }
 
-// The angle that a component asks.
+// The angle that a component asks. (Beside a list with room for at most 2^32 points it may be in any state.)
 pub fn component_angle<const E: usize>(grid: Row, z: Component, row: &ArrayVec<Point, E>) -> f64
-    requires { (n : ℕ) → Handy (component_of n row.now.items z) }
+    requires { 2 ^ 32 < E → (n : ℕ) → Handy (component_of n row.now.items z) }
     ensures { (i n : ℕ) → result ≡ Steps.component_angle i (points grid.entry) n (component_of n row.now.items z) }
 {
     match z {
@@ -115,5 +115,24 @@ pub fn component_next<const E: usize, const N: usize>(
                 None => edges_way(grid, n, k as usize + 1),
             }
         }
+    }
+}
+
+#[cfg(test)]
+mod tests {
+    use super::*;
+    use step_edge::edge::Gap;
+
+    // Beside a row with room for nine points an edge may be in any state: no search comes to 20 halvings. The
+    // angle is that of exact arithmetic.
+    #[test]
+    fn angle_of_any_state(rt: HostRuntime) {
+        let row: ArrayVec<Point, 9> = ArrayVec::new();
+        let g = Gap {
+            inside: Point { x: 1.0, y: 0.0 },
+            outside: 3.0,
+        };
+        let z = Component::InEdge(0, Edge::Halving(20, g));
+        assert_eq!(rt; component_angle(Row::Edge(&[]), z, &row), 2.0);
     }
 }

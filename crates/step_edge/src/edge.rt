@@ -33,7 +33,7 @@ pub fn row_way<const E: usize, const N: usize>(
     row: &ArrayVec<Point, E>,
     found: &mut ArrayVec<Found, N>,
 ) -> Option<Edge>
-    requires { length row.now.items ≤ 2 ^ 32 }
+    requires { 2 ^ 32 < E → length row.now.items ≤ 2 ^ 32 }
     ensures { (o : Place → Origin) → ((q : Place) → component (o q) ≡ i) → (p : DipDefinition.Point) → came (edge_of row.now.items) found.new.items result ≡ landed N found.old.items (Steps.row_way o p (map point_of row.now.items)) }
 {
     scan_way(i, Row::Edge(row.as_slice()), whole(row), found).map(|z| Edge::InRow(z))
@@ -94,9 +94,9 @@ pub fn take_next<const E: usize, const N: usize>(
     take_way(i, p, e, j + 1, row, found)
 }
 
-// The angle that an edge asks.
+// The angle that an edge asks. (Beside a list with room for at most 2^32 points it may be in any state.)
 pub fn edge_angle<const E: usize>(p: Point, z: Edge, row: &ArrayVec<Point, E>) -> f64
-    requires { EdgeKept (edge_of row.now.items z) }
+    requires { 2 ^ 32 < E → EdgeKept (edge_of row.now.items z) }
     ensures { (o : Place → Origin) → result ≡ Steps.edge_angle o (point_of p) (edge_of row.now.items z) }
 {
     match z {
@@ -126,5 +126,49 @@ pub fn edge_next<const E: usize, const N: usize>(
             let run = whole(row);
             scan_next(i, Row::Edge(row.as_slice()), run, s, y, found).map(|z| Edge::InRow(z))
         }
+    }
+}
+
+#[cfg(test)]
+mod tests {
+    use super::*;
+
+    fn row_of(points: &[Point]) -> ArrayVec<Point, 9>
+        requires { length points.now ≤ 9 }
+    {
+        let mut row = ArrayVec::new();
+        row.extend_from_slice(points);
+        row
+    }
+
+    // A row with room for nine points may be in any state: no search comes to 20 halvings nor to a ninth sample.
+    // The angles are those of exact arithmetic.
+    #[test]
+    fn angles_of_any_state(rt: HostRuntime) {
+        let row = row_of(&[]);
+        let p = Point { x: 1.0, y: 0.0 };
+        let e = Point { x: 0.0, y: 0.0 };
+        let g = Gap {
+            inside: p,
+            outside: 3.0,
+        };
+        assert_eq!(rt; edge_angle(p, Edge::Halving(20, g), &row), 2.0);
+        assert_eq!(rt; edge_angle(p, Edge::Taking(e, 9), &row), 1.265625);
+    }
+
+    // The whole of a row is scanned: between a negative value and a positive one it pauses to refine.
+    #[test]
+    fn row_of_two_points(rt: HostRuntime) {
+        let row = row_of(&[Point { x: 0.0, y: -1.0 }, Point { x: 1.0, y: 1.0 }]);
+        let run = whole(&row);
+        assert_eq!(rt; run.from, 0);
+        assert_eq!(rt; run.count, 2);
+        let mut found: ArrayVec<Found, 1> = ArrayVec::new();
+        let crossing = match row_way(0, &row, &mut found) {
+            Some(Edge::InRow(Scan::Crossing(l, _))) => l == 0,
+            _ => false,
+        };
+        assert!(rt; crossing);
+        assert_eq!(rt; found.len(), 0);
     }
 }

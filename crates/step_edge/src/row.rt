@@ -9,9 +9,9 @@ use array_vec::ArrayVec;
 use step_refine::Point;
 use step_scan::run::Run;
 
-// All of a row.
+// All of a row. (A run counts up to 2^32: a list with room for no more asks nothing.)
 pub fn whole<const E: usize>(row: &ArrayVec<Point, E>) -> Run
-    requires { length row.now.items ≤ 2 ^ 32 }
+    requires { 2 ^ 32 < E → length row.now.items ≤ 2 ^ 32 }
     ensures from { result.from ≡ 0 }
     ensures count { result.count ≡ length row.now.items }
 {

@@ -3,7 +3,7 @@
 // samples, where n + 1 are taken, for E points of an edge, of which there are nine, and for N pairs.
 #![tactic(auto)]
 
-ghost use Rattle.std.specs.Prelude.{◌≡◌, List, ℕ, ◌<◌, ◌≤◌, ◌^◌, length};
+ghost use Rattle.std.specs.Prelude.{◌≡◌, List, ℕ, ◌+◌, ◌<◌, ◌≤◌, ◌^◌, length};
 ghost use Rattle.std.specs.Option.{option_map};
 ghost use Rattle.search_error.specs.Fixed.{error_at};
 ghost use Rattle.search_steps.specs.Steps as Steps;
@@ -53,14 +53,14 @@ pub fn over(phase: SearchPhase) -> bool
     }
 }
 
-// The angle that a phase asks.
+// The angle that a phase asks. (Over lists with room for fewer than 2^32 samples and points it may be any phase.)
 pub fn asked_angle<const S: usize, const E: usize>(
     n: u32,
     phase: SearchPhase,
     samples: &ArrayVec<Sample, S>,
     row: &ArrayVec<Point, E>,
 ) -> f64
-    requires { PhaseKept n (phase_of n samples.now.items row.now.items phase) }
+    requires { 2 ^ 32 ≤ S + E → PhaseKept n (phase_of n samples.now.items row.now.items phase) }
     ensures { result ≡ angle_in n (samples_of samples.now.items) (phase_of n samples.now.items row.now.items phase) }
 {
     match phase {
@@ -152,4 +152,23 @@ pub fn step<const S: usize, const E: usize, const N: usize>(
     let x = asked_angle(n, phase, samples, row);
     let e = error_given_q1(fixed, x);
     next(n, phase, e, samples, row, found)
+}
+
+#[cfg(test)]
+mod tests {
+    use super::*;
+
+    // With room for 401 samples and nine points a phase may be any: no search over two samples takes three. The
+    // angles are those of the machine's arithmetic.
+    #[test]
+    fn angles_of_any_phase(rt: HostRuntime) {
+        let mut samples: ArrayVec<Sample, 401> = ArrayVec::new();
+        let row: ArrayVec<Point, 9> = ArrayVec::new();
+        let first = asked_angle(1, SearchPhase::Sampling, &samples, &row);
+        samples.extend_from_slice(&[Sample::default(); 3]);
+        let fourth = asked_angle(1, SearchPhase::Sampling, &samples, &row);
+        assert_eq!(rt; first, -3.141592653589793);
+        assert_eq!(rt; fourth, 15.707963267948966);
+        assert!(rt; asked_angle(1, SearchPhase::Ended, &samples, &row).is_nan());
+    }
 }

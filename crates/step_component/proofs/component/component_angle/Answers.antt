@@ -9,7 +9,7 @@ use Rattle.step_component.proofs.ComponentLaws.{angle_from, handy_at}
 use Rattle.step_component.proofs.component.component_angle.Goals as goal
 
 pub edge_angle-requires : goal.edge_angle-requires
-edge_angle-requires g c = (search rules, handy_at 0 (points c.args.grid) 0 c.args.row.now.items c.args.z _ c.in-InEdge.is (c.requires 0))
+edge_angle-requires g c = (search rules, λ l. handy_at 0 (points c.args.grid) 0 c.args.row.now.items c.args.z _ c.in-InEdge.is (c.requires l 0))
 
 pub returns-in-InRun : goal.returns-in-InRun
 unfolding component_angle
